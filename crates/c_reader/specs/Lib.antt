@@ -1,0 +1,2 @@
+pub mod EarlyForm
+pub mod EarlyMeaning
