@@ -1,2 +1,5 @@
+pub mod EarlyFault
 pub mod EarlyForm
 pub mod EarlyMeaning
+pub mod EarlyReading
+pub mod Spelling

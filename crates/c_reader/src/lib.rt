@@ -2,5 +2,10 @@
 #![tactic(auto)]
 
 mod early;
+mod early_laws;
+mod early_reader;
+mod early_tokens;
 
 pub use early::{Act, Early, EarlyFault};
+pub use early_laws::{parts_are_unique, tokens_are_spelled};
+pub use early_reader::read_early;

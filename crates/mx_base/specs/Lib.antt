@@ -1,1 +1,10 @@
 pub mod Outside
+pub mod Calls
+pub mod MemSource
+pub mod MemSink
+pub mod Shelf
+pub mod MemFiles
+pub mod Slot
+pub mod Front
+pub mod SureSink
+pub mod SureFiles

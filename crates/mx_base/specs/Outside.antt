@@ -1,5 +1,5 @@
 -- The outside: what is told of files, sources and sinks, and what each call makes of it.
-use Rattle.std.specs.Prelude.{◌≡◌, ℕ, ◌<◌, ◌≤◌, Option, None, Some, Result, Ok, Err, List, [], ◌++◌, length, take, drop}
+use Rattle.std.specs.Prelude.{◌≡◌, ℕ, ◌+◌, ◌<◌, ◌≤◌, min, Option, None, Some, Result, Ok, Err, List, [], ◌++◌, length, take, drop}
 
 -- what is told of a name: nothing, that no file has it, or the bytes of its file
 pub data FileFacts : Type 0 where
@@ -76,3 +76,7 @@ pub record HasRisen (old new : ℕ) : Type 0 where
 abbrev pub Counts : {T E : Type 0} → Result T E → ℕ → ℕ → Type 0
 Counts (Ok v) old new = new ≡ old
 Counts (Err e) old new = HasRisen old new
+
+-- a count one higher, as far as a u64 counts
+abbrev pub one_more : ℕ → ℕ
+one_more n = min (n + 1) 0xffff_ffff_ffff_ffff

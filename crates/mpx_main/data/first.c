@@ -1,0 +1,2 @@
+char a[4];
+int main(void){ a[3]=1; put(a[3]); return 0; }

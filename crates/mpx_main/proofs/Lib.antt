@@ -1,0 +1,5 @@
+pub mod Fronts
+pub mod Hex
+pub mod Programs
+pub mod Puts
+pub mod Texts

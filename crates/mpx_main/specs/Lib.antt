@@ -1,0 +1,5 @@
+pub mod Due
+pub mod Ends
+pub mod Sinks
+pub mod Sources
+pub mod Words

@@ -1,0 +1,61 @@
+//! `mpxc`: the command line over files, standard input, standard output and standard error.
+#![tactic(auto)]
+
+mod end;
+mod line;
+mod real;
+mod report;
+mod run;
+mod sink;
+mod source_file;
+#[cfg(test)]
+mod tests;
+mod word;
+
+use end::End;
+use real::{RealFiles, RealSink, RealSource};
+use report::report;
+use run::run_words;
+use std::env;
+use std::io::ErrorKind;
+use std::process::ExitCode;
+
+fn main(rt: HostRuntime) -> ExitCode {
+    let mut err = RealSink::new(rt.stderr());
+    let status = match words_after_name(&rt) {
+        Ok(words) => {
+            let mut files = RealFiles::new(&rt);
+            let mut input = RealSource::new(rt.reader());
+            let mut out = RealSink::new(rt.stdout());
+            run_words(
+                rt.alloc(),
+                words.as_slice(),
+                &mut files,
+                &mut input,
+                &mut out,
+                &mut err,
+            )
+        }
+        Err(end) => report(&mut err, "", end),
+    };
+    ExitCode::from(status)
+}
+
+/// The words after the program's name. A word that is not UTF-8 makes them no command.
+fn words_after_name(rt: &HostRuntime) -> Result<Vec<String>, End> {
+    let args = match env::args(rt) {
+        Ok(args) => args,
+        Err(error) => return Err(refusal(error.kind())),
+    };
+    match args.skip(1).collect(rt.alloc()) {
+        Ok(words) => Ok(words),
+        Err(_) => Err(End::NoMemory),
+    }
+}
+
+fn refusal(kind: ErrorKind) -> End {
+    match kind {
+        ErrorKind::OutOfMemory => End::NoMemory,
+        _ => End::WordsRefused,
+    }
+}

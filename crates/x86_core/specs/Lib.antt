@@ -1,0 +1,3 @@
+pub mod EarlyMachine
+pub mod EarlyReads
+pub mod EarlyRuns

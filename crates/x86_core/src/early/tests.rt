@@ -1,0 +1,91 @@
+//! Code that was assembled by GNU `as`, run into a small sink.
+ghost use Rattle.std.specs.Prelude.{Some};
+
+use super::*;
+use std::test::Fail;
+
+/// A sink that takes one byte a call, and fails once it holds `room` bytes.
+#[derive(Drop)]
+struct Kept {
+    bytes: Vec<u8>,
+    room: usize,
+    faults: u64,
+}
+
+impl Sink for Kept {
+    ghost held = { λ s. Some s.bytes.items };
+
+    ghost faults = { λ s. s.faults };
+
+    fn put(&mut self, bytes: &[u8]) -> Result<usize, Failed> {
+        let Some(first) = bytes.first() else {
+            return Ok(0);
+        };
+        if self.bytes.len() < self.room && self.bytes.push(*first).is_ok() {
+            return Ok(1);
+        }
+        self.faults = self.faults.saturating_add(1);
+        Err(Failed)
+    }
+
+    fn faults(&self) -> u64 {
+        self.faults
+    }
+}
+
+/// `mov ebx, 0x20000000; bndmk bnd0, [rbx+3]; mov ecx, 0x20000003; bndcl bnd0, rcx; bndcu bnd0, rcx; mov byte [rcx], 1;`
+/// the same address and checks again, `movzx edi, byte [rcx]; mov eax, 0x1003; syscall; mov edi, 0; mov eax, 60; syscall`
+const LAST_BYTE: [u8; 61] = [
+    0xBB, 0x00, 0x00, 0x00, 0x20, 0xF3, 0x0F, 0x1B, 0x43, 0x03, 0xB9, 0x03, 0x00, 0x00, 0x20, 0xF3,
+    0x0F, 0x1A, 0xC1, 0xF2, 0x0F, 0x1A, 0xC1, 0xC6, 0x01, 0x01, 0xB9, 0x03, 0x00, 0x00, 0x20, 0xF3,
+    0x0F, 0x1A, 0xC1, 0xF2, 0x0F, 0x1A, 0xC1, 0x0F, 0xB6, 0x39, 0xB8, 0x03, 0x10, 0x00, 0x00, 0x0F,
+    0x05, 0xBF, 0x00, 0x00, 0x00, 0x00, 0xB8, 0x3C, 0x00, 0x00, 0x00, 0x0F, 0x05,
+];
+
+/// The same with the address 0x20000004 at first, one byte past the array.
+const PAST_END: [u8; 26] = [
+    0xBB, 0x00, 0x00, 0x00, 0x20, 0xF3, 0x0F, 0x1B, 0x43, 0x03, 0xB9, 0x04, 0x00, 0x00, 0x20, 0xF3,
+    0x0F, 0x1A, 0xC1, 0xF2, 0x0F, 0x1A, 0xC1, 0xC6, 0x01, 0x01,
+];
+
+/// `mov edi, 7; mov eax, 0x1003; syscall` twice, so the second time with the answer of the first in rax, which is 0
+const PUT_TWICE: [u8; 24] = [
+    0xBF, 0x07, 0x00, 0x00, 0x00, 0xB8, 0x03, 0x10, 0x00, 0x00, 0x0F, 0x05, 0xBF, 0x08, 0x00, 0x00,
+    0x00, 0xB8, 0x03, 0x10, 0x00, 0x00, 0x0F, 0x05,
+];
+
+#[test]
+fn runs(rt: HostRuntime) -> Result<(), Fail> {
+    let past_end = EarlyStop::Bounds {
+        value: 0x2000_0004,
+        lb: 0x2000_0000,
+        ub: 0x2000_0003,
+    };
+    let rows: [(&[u8], usize, EarlyStop, &[u8]); 9] = [
+        (&LAST_BYTE, 9, EarlyStop::Exit(0), &[1]),
+        (&PAST_END, 9, past_end, &[]),
+        // Two bytes are put, and no instruction is left.
+        (&PUT_TWICE, 9, EarlyStop::Undefined, &[7, 8]),
+        // The sink has room for one.
+        (&PUT_TWICE, 1, EarlyStop::WriteFault, &[7]),
+        // mov byte [rax], 1, with 0 in rax
+        (&[0xC6, 0x00, 0x01], 9, EarlyStop::Unmapped, &[]),
+        // ud2
+        (&[0x0F, 0x0B], 9, EarlyStop::Undefined, &[]),
+        // a `mov byte [rcx], 1` with a displacement of 0, which is not its spelling
+        (&[0xC6, 0x41, 0x00, 0x01], 9, EarlyStop::Undefined, &[]),
+        // syscall, with no service's number in rax
+        (&[0x0F, 0x05], 9, EarlyStop::Undefined, &[]),
+        (&[], 9, EarlyStop::Undefined, &[]),
+    ];
+    for (code, room, stop, bytes) in rows {
+        let mut out = Kept {
+            bytes: Vec::new(rt.alloc()),
+            room,
+            faults: 0,
+        };
+        assert_eq!(rt; run_early(rt.alloc(), code, 4, &mut out)?, stop, "{code:?}");
+        assert_eq!(rt; out.bytes.as_slice(), bytes);
+    }
+    Ok(())
+}

@@ -1,0 +1,3 @@
+mod EarlyBack
+pub mod EarlyFound
+pub mod EarlyRows

@@ -1,0 +1,4 @@
+pub mod EarlySpelling
+pub mod EarlyReading
+pub mod EarlyEffects
+pub mod EarlyCode

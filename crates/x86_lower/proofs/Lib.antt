@@ -1,0 +1,2 @@
+mod EarlyGuard
+mod EarlyRun

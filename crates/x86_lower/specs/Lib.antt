@@ -1,0 +1,2 @@
+pub mod EarlyProgram
+pub mod EarlyChecks

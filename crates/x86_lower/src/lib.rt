@@ -1,0 +1,6 @@
+//! Lowering: from programs to instructions and their bytes.
+#![tactic(auto)]
+
+mod early;
+
+pub use early::lower_early;
