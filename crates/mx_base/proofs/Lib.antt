@@ -1,3 +1,10 @@
 pub mod ShelfLemmas
 pub mod FilesLemmas
 pub mod SureLemmas
+pub mod NumbersLemmas
+pub mod HeapLemmas
+pub mod StoreLemmas
+pub mod RegionsLemmas
+pub mod MemoryLemmas
+pub mod EdgeValues
+pub mod HeapOrder

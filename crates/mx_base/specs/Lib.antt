@@ -8,3 +8,15 @@ pub mod Slot
 pub mod Front
 pub mod SureSink
 pub mod SureFiles
+pub mod Numbers
+pub mod Operators
+pub mod Bounds
+pub mod Regions
+pub mod Memory
+pub mod Access
+pub mod BoundsStore
+pub mod Walk
+pub mod Heap
+pub mod Services
+pub mod StopOfC
+pub mod World

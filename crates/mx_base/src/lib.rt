@@ -2,28 +2,40 @@
 #![tactic(auto)]
 
 mod calls;
+mod externals;
 mod front;
+mod laws;
+mod limits;
 mod mem_files;
 mod mem_sink;
 mod mem_source;
 mod memory;
 mod numbers;
-mod outside;
 mod places;
 mod rest;
+mod settings;
 mod shelf;
 mod slot;
+mod stops;
 mod sure_files;
 mod sure_sink;
 mod sure_source;
 
+pub use externals::{Failed, Files, Sink, Source};
+pub use laws::{
+    bytes_are_read_back, code_is_never_writable, heap_lists_stay_in_order,
+    live_blocks_never_overlap, loads_answer_the_last_keep, numbers_are_read_back,
+    sealed_bytes_are_not_open,
+};
+pub use limits::{Bounds, full, meet, outside};
 pub use mem_files::MemFiles;
 pub use mem_sink::MemSink;
 pub use mem_source::MemSource;
 pub use memory::OutOfMemory;
-pub use numbers::IntKind;
-pub use outside::{Failed, Files, Sink, Source};
+pub use numbers::{IntKind, extend, wrap};
 pub use places::Place;
+pub use settings::Flags;
+pub use stops::{Breach, Stop};
 pub use sure_files::SureFiles;
 pub use sure_sink::SureSink;
 pub use sure_source::SureSource;

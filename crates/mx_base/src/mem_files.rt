@@ -6,8 +6,8 @@ ghost use Rattle.mx_base.specs.Shelf.{file_named, bytes_from};
 ghost use Rattle.mx_base.specs.MemFiles.{files_of, told_of, read_count, after_read, after_refused_read, refuses_write, after_write, after_refused_write};
 
 use super::calls::Calls;
+use super::externals::{Failed, Files};
 use super::memory::OutOfMemory;
-use super::outside::{Failed, Files};
 use super::shelf::Shelf;
 use std::alloc::Global;
 use std::marker::Model;

@@ -3,8 +3,8 @@ ghost use Rattle.mx_base.specs.Outside.{Puts, Counts};
 ghost use Rattle.mx_base.specs.MemSink.{sink_of, left_room, refuses_put, after_put, after_refused};
 
 use super::calls::Calls;
+use super::externals::{Failed, Sink};
 use super::memory::OutOfMemory;
-use super::outside::{Failed, Sink};
 use std::alloc::Global;
 use std::marker::Model;
 

@@ -5,8 +5,8 @@ ghost use Rattle.mx_base.specs.Front.{laid_over};
 ghost use Rattle.mx_base.specs.MemSource.{source_of, after_take, after_refused};
 
 use super::calls::Calls;
+use super::externals::{Failed, Source};
 use super::memory::OutOfMemory;
-use super::outside::{Failed, Source};
 use super::rest::Rest;
 use std::alloc::Global;
 use std::marker::Model;

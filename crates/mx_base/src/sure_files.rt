@@ -4,8 +4,8 @@ ghost use Rattle.mx_base.specs.Front.{laid_over};
 ghost use Rattle.mx_base.specs.Shelf.{file_named, bytes_from};
 ghost use Rattle.mx_base.specs.SureFiles.{sure_files_of, files_told, sure_read_count, after_sure_write};
 
+use super::externals::{Failed, Files};
 use super::memory::OutOfMemory;
-use super::outside::{Failed, Files};
 use super::shelf::Shelf;
 use std::alloc::Global;
 use std::marker::Model;

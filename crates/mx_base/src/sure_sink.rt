@@ -2,8 +2,8 @@ ghost use Rattle.std.specs.Prelude.{◌≡◌, ℕ, length, IfOk};
 ghost use Rattle.mx_base.specs.Outside.{Puts, Counts};
 ghost use Rattle.mx_base.specs.SureSink.{sure_sink_of, sink_told, after_sure_put};
 
+use super::externals::{Failed, Sink};
 use super::memory::OutOfMemory;
-use super::outside::{Failed, Sink};
 use std::alloc::Global;
 use std::marker::Model;
 

@@ -2,8 +2,8 @@ ghost use Rattle.std.specs.Prelude.{◌≡◌, ℕ, Some, length, drop, min, IfO
 ghost use Rattle.mx_base.specs.Outside.{Takes, Counts};
 ghost use Rattle.mx_base.specs.Front.{laid_over};
 
+use super::externals::{Failed, Source};
 use super::memory::OutOfMemory;
-use super::outside::{Failed, Source};
 use super::rest::Rest;
 use std::alloc::Global;
 use std::marker::Model;

@@ -1,0 +1,94 @@
+-- The world that C, legacy code and the machine share, and beside it what decides nothing.
+use Rattle.std.specs.Prelude.{ℕ, Bool, Option, None, List, []}
+use Rattle.mx_base.specs.declared.limits.Bounds.{Bounds}
+use Rattle.mx_base.specs.Regions.{data_stack, legacy_stack, region_end}
+use Rattle.mx_base.specs.Memory.{Bytes}
+use Rattle.mx_base.specs.BoundsStore.{BoundsStore, empty_store}
+use Rattle.mx_base.specs.Services.{Guest, guest_with}
+
+-- the registers that C never touches
+pub record FarRegisters : Type 0 where
+  pub rbx : ℕ
+  pub rbp : ℕ
+  pub r12 : ℕ
+  pub r13 : ℕ
+  pub r14 : ℕ
+  pub r15 : ℕ
+
+abbrev pub far_at_start : FarRegisters
+far_at_start = record { rbx = 0; rbp = 0; r12 = 0; r13 = 0; r14 = 0; r15 = 0 }
+
+-- an access of C that was done: whether it wrote, its first address, and how many bytes it had
+pub record Access : Type 0 where
+  pub write : Bool
+  pub at : ℕ
+  pub size : ℕ
+
+-- the bytes that are not sealed, the bounds beside them, heap, input and output, the turns left, the far registers, the two stack
+-- pointers, and the accesses of C so far
+pub record World : Type 0 where
+  pub bytes : Bytes
+  pub store : BoundsStore
+  pub guest : Guest
+  pub turns : ℕ
+  pub far : FarRegisters
+  pub data_sp : ℕ
+  pub legacy_sp : ℕ
+  pub accesses : List Access
+
+-- the world before the first event, with the bytes of an image's data and legacy code
+abbrev pub world_at_start : Bytes → List ℕ → ℕ → World
+world_at_start bytes input turns = record {
+  bytes = bytes;
+  store = empty_store;
+  guest = guest_with input;
+  turns = turns;
+  far = far_at_start;
+  data_sp = region_end data_stack;
+  legacy_sp = region_end legacy_stack;
+  accesses = [];
+}
+
+-- ---- what decides nothing
+
+-- why a pointer has full bounds
+pub data Cause : Type 0 where
+  NullConstant : Cause
+  FromInteger : Cause
+  FunctionAddress : Cause
+  UnsetPointer : Cause
+  NoReturn : Cause
+  NullBlock : Cause
+  NothingKept : Cause
+  InitBuiltin : Cause
+  LegacyInit : Cause
+
+-- where bounds come from: the place, from 0, of the bounds that were made, or the cause that made them full
+pub data Root : Type 0 where
+  MadeAt : (place : ℕ) → Root
+  FullBy : (cause : Cause) → Root
+
+pub record Rooted : Type 0 where
+  pub bounds : Bounds
+  pub root : Root
+
+-- an access with its bounds, if it has any, and how many bounds were made and how many causes had happened by then
+pub record Traced : Type 0 where
+  pub access : Access
+  pub bounds : Option Rooted
+  pub made : ℕ
+  pub causes : ℕ
+
+-- the accesses, the bounds made and the causes that happened, each in order; the root of what is kept for each granule; the
+-- pages written and the granules loaded or kept; and the deepest that functions were nested
+pub record Log : Type 0 where
+  pub trace : List Traced
+  pub made : List Bounds
+  pub causes : List Cause
+  pub roots : ℕ → Option Root
+  pub pages : List ℕ
+  pub granules : List ℕ
+  pub deepest : ℕ
+
+abbrev pub empty_log : Log
+empty_log = record { trace = []; made = []; causes = []; roots = λ g. None; pages = []; granules = []; deepest = 0 }
