@@ -1,0 +1,12 @@
+pub mod BadBytes
+pub mod Decoded
+pub mod Extents
+pub mod Longest
+pub mod Meanings
+pub mod Quotations
+pub mod Spelled
+pub mod Standing
+pub mod Tables
+pub mod Turns
+pub mod Values
+pub mod Whole

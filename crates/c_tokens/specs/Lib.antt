@@ -1,0 +1,9 @@
+pub mod Faults
+pub mod Lexical
+pub mod Marks
+pub mod Numbers
+pub mod Pieces
+pub mod Places
+pub mod Quotes
+pub mod Tokens
+pub mod Words

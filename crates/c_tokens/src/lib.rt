@@ -1,0 +1,24 @@
+//! The tokens of a C source, each with its place, or the first piece of it that is none.
+#![tactic(auto)]
+
+mod class;
+mod cut;
+mod fault;
+mod laws;
+mod marks;
+mod numbers;
+mod piece;
+mod places;
+mod quotes;
+#[cfg(test)]
+mod tests;
+mod token;
+mod words;
+
+pub use class::{Class, TokenKind};
+pub use cut::tokens;
+pub use fault::TokenFault;
+pub use laws::{characters_are_quoted, texts_are_quoted, tokens_are_longest};
+pub use numbers::{Number, number_of};
+pub use quotes::{character_of, text_of};
+pub use token::Token;

@@ -1,0 +1,119 @@
+//! Trees that are built, counted and dropped.
+
+use crate::count::nodes;
+use crate::names::{Bytes, Name};
+use crate::tree::{
+    Base, Decl, Expr, ExprKind, Init, InitKind, Item, ItemKind, Stmt, StmtKind, Tree,
+};
+use mx_base::{IntKind, Place};
+use sqlite_items::{Boxed, Items};
+use std::alloc::{AllocError, Global};
+use std::test::Fail;
+
+const HERE: Place = Place {
+    file: 0,
+    line: 1,
+    col: 1,
+};
+
+fn expr(kind: ExprKind) -> Expr {
+    Expr { place: HERE, kind }
+}
+
+fn stmt(kind: StmtKind) -> Stmt {
+    Stmt { place: HERE, kind }
+}
+
+fn name(alloc: Global) -> Result<Name, AllocError> {
+    Ok(Name::from_vec(Vec::from_slice(alloc, b"f")?))
+}
+
+fn decl(alloc: Global) -> Result<Decl, AllocError> {
+    Ok(Decl {
+        place: HERE,
+        base: Base::Int(IntKind::I32),
+        stars: 0,
+        name: name(alloc)?,
+        counts: Items::new(alloc),
+    })
+}
+
+/// A variable with so many operators before it.
+fn negated(alloc: Global, times: u32) -> Result<Expr, AllocError> {
+    let mut value = expr(ExprKind::Var(name(alloc)?));
+    for _ in 0..times {
+        value = expr(ExprKind::Unary(0, Boxed::new(alloc, value)?));
+    }
+    Ok(value)
+}
+
+/// An empty statement with so many loops around it.
+fn looped(alloc: Global, times: u32) -> Result<Stmt, AllocError> {
+    let mut inner = stmt(StmtKind::Value(None));
+    for _ in 0..times {
+        let test = expr(ExprKind::Text(Bytes::from_vec(Vec::new(alloc))));
+        inner = stmt(StmtKind::While(test, Boxed::new(alloc, inner)?));
+    }
+    Ok(inner)
+}
+
+/// A source of one function with this body.
+fn source(alloc: Global, body: Stmt) -> Result<Tree, AllocError> {
+    let mut items = Items::new(alloc);
+    items.push(Item {
+        place: HERE,
+        kind: ItemKind::Fun(decl(alloc)?, Items::new(alloc), Some(body)),
+    })?;
+    Ok(Tree { items })
+}
+
+#[test]
+fn large_tree_is_counted_and_dropped(rt: HostRuntime) -> Result<(), Fail> {
+    let alloc = rt.alloc();
+    let mut stmts = Items::new(alloc);
+    for _ in 0..163 {
+        stmts.push(stmt(StmtKind::Value(Some(negated(alloc, 199)?))))?;
+    }
+    stmts.push(stmt(StmtKind::Break))?;
+    stmts.push(stmt(StmtKind::Return(None)))?;
+    let tree = source(alloc, stmt(StmtKind::Block(stmts)))?;
+    assert_eq!(rt; nodes(&tree), 32_768);
+    Ok(())
+}
+
+#[test]
+fn deep_tree_is_counted_and_dropped(rt: HostRuntime) -> Result<(), Fail> {
+    let alloc = rt.alloc();
+    let tree = source(alloc, looped(alloc, 200)?)?;
+    assert_eq!(rt; nodes(&tree), 403);
+    Ok(())
+}
+
+#[test]
+fn each_node_counts_once(rt: HostRuntime) -> Result<(), Fail> {
+    let alloc = rt.alloc();
+    let mut counted = decl(alloc)?;
+    counted.counts.push(negated(alloc, 1)?)?;
+    let mut parts = Items::new(alloc);
+    for _ in 0..2 {
+        let kind = InitKind::One(negated(alloc, 0)?);
+        parts.push(Init { place: HERE, kind })?;
+    }
+    let init = Init {
+        place: HERE,
+        kind: InitKind::Many(parts),
+    };
+    let mut items = Items::new(alloc);
+    items.push(Item {
+        place: HERE,
+        kind: ItemKind::Var(false, counted, Some(init)),
+    })?;
+    let mut members = Items::new(alloc);
+    members.push(decl(alloc)?)?;
+    items.push(Item {
+        place: HERE,
+        kind: ItemKind::Struct(name(alloc)?, members),
+    })?;
+    assert_eq!(rt; nodes(&Tree { items }), 11);
+    Ok(())
+}
