@@ -1,17 +1,16 @@
 -- Each valid instruction is read from the front of its spelling.
-use Rattle.std.proofs.Common.{◌≡◌, ℕ, ◌+◌, ◌-◌, ◌*◌, ◌/◌, ◌%◌, ◌^◌, ◌<◌, ◌≤◌, Bool, true, false, List, [], ◌∷◌, ◌++◌, refl, sym, ap, ◌∙◌, arith, inl, inr, append_assoc}
-use Rattle.std.specs.Prelude.{ℤ, pos, negsuc, Option, Some, None, nat_lt, nat_le, ◌==◌, ◌&&◌, not, if◌then◌else◌}
-use Rattle.std.specs.Int.{w8, w32, cast_signed, cast_unsigned, from_le_bytes, to_le_bytes}
+use Rattle.std.proofs.Common.{◌≡◌, ℕ, ◌+◌, ◌-◌, ◌/◌, ◌%◌, ◌^◌, ◌<◌, true, false, List, [], ◌∷◌, ◌++◌, refl, sym, ap, ◌∙◌, arith, append_assoc}
+use Rattle.std.specs.Prelude.{ℤ, pos, negsuc, Some, nat_lt, nat_le, ◌==◌, ◌&&◌, not, if◌then◌else◌}
+use Rattle.std.specs.Int.{w8, w32, cast_signed, cast_unsigned, to_le_bytes}
 use Rattle.std.proofs.lemmas.Bool.{and_parts, ltb-true, cond_both, eqb-true, eq-eqb, ne_eqb}
 use Rattle.std.proofs.lemmas.Bool.Decides.{nat_tests}
 use Rattle.std.proofs.lemmas.Int.{ints}
-use Rattle.std.proofs.lemmas.Grind.{common_steps}
 use Rattle.std.proofs.lemmas.Nat.{from_le_bytes-to_le_bytes_4}
 use Rattle.x86_forms.specs.declared.early.EarlyMem.{EarlyMem}
 use Rattle.x86_forms.specs.declared.early.EarlyInstr.{EarlyInstr}
 use Rattle.x86_forms.specs.declared.early.EarlyInstr.TheVariants.{MovImm, MovByte, Movzx, Bndmk, Bndcl, Bndcu, Syscall}
 use Rattle.x86_forms.specs.EarlySpelling.{fits_8, fits_32, is_zero, is_base, is_mem, is_valid, modrm, mode_of, disp_bytes, mem_bytes, spelling}
-use Rattle.x86_forms.specs.EarlyReading.{◌>>=◌, byte_at, word_at, disp_at, mem_at, pair_at, movzx_at, bndmk_at, bndcl_at, bndcu_at, mov_byte_at, mov_imm_at, after, found, read_form}
+use Rattle.x86_forms.specs.EarlyReading.{byte_at, word_at, disp_at, mem_at, pair_at, movzx_at, bndmk_at, bndcl_at, bndcu_at, mov_byte_at, mov_imm_at, after, read_form}
 
 -- ---- numbers of one byte and of four
 

@@ -43,8 +43,8 @@ unfoldable pub forms_in : List ℕ → List EarlyInstr
 forms_in bytes = forms_within (length bytes) bytes
 
 -- where code begins
-abbrev pub code_at : ℕ
-code_at = 0x0100_0000
+abbrev pub code_start : ℕ
+code_start = 0x0100_0000
 
 -- registers and memory are 0, and the bounds registers are INIT, which allows every address
 abbrev pub started : ℕ → EarlyState
@@ -52,4 +52,4 @@ started size = record { regs = λ r. 0; lower = λ b. 0; held = λ b. 0; array =
 
 -- the run of code bytes over so many bytes of memory
 unfoldable pub code_run : List ℕ → ℕ → CodeRun
-code_run code size = forms_run (forms_in code) code_at (started size)
+code_run code size = forms_run (forms_in code) code_start (started size)

@@ -6,8 +6,8 @@ use Rattle.x86_forms.specs.declared.early.EarlyInstr.{EarlyInstr}
 use Rattle.x86_forms.specs.declared.early.EarlyInstr.TheVariants.{MovImm, MovByte, Movzx, Bndmk, Bndcl, Bndcu, Syscall}
 
 -- the address of the first byte of memory; the bytes of the array stand from there, and no other byte is mapped
-abbrev pub memory_at : ℕ
-memory_at = 0x2000_0000
+abbrev pub memory_start : ℕ
+memory_start = 0x2000_0000
 
 pub record EarlyState : Type 0 where
   -- the 64 bits of each register
@@ -49,7 +49,7 @@ unfoldable pub address : EarlyMem → EarlyState → ℕ
 address m s = (s.regs m.base + cast_unsigned w64 m.disp) % 2 ^ 64
 
 abbrev pub is_mapped : ℕ → EarlyState → Bool
-is_mapped a s = nat_le memory_at a && nat_lt a (memory_at + length s.array)
+is_mapped a s = nat_le memory_start a && nat_lt a (memory_start + length s.array)
 
 -- a check of a value that failed
 abbrev pub violation : EarlyState → ℕ → ℕ → EarlyEffect
@@ -67,9 +67,9 @@ service next s =
 unfoldable pub effect : ℕ → EarlyInstr → EarlyState → EarlyEffect
 effect next (MovImm reg imm) s = Goes (record s { regs = updated s.regs reg imm })
 effect next (MovByte mem imm) s =
-    if is_mapped (address mem s) s then Goes (record s { array = slice_set s.array (address mem s - memory_at) imm }) else Ends Unmapped
+    if is_mapped (address mem s) s then Goes (record s { array = slice_set s.array (address mem s - memory_start) imm }) else Ends Unmapped
 effect next (Movzx reg mem) s =
-    if is_mapped (address mem s) s then Goes (record s { regs = updated s.regs reg (slice_index s.array (address mem s - memory_at)) }) else Ends Unmapped
+    if is_mapped (address mem s) s then Goes (record s { regs = updated s.regs reg (slice_index s.array (address mem s - memory_start)) }) else Ends Unmapped
 effect next (Bndmk bounds mem) s =
     Goes (record s { lower = updated s.lower bounds (s.regs mem.base); held = updated s.held bounds (complement (address mem s)) })
 effect next (Bndcl bounds reg) s = if nat_lt (s.regs reg) (s.lower bounds) then violation s bounds (s.regs reg) else Goes s

@@ -1,6 +1,6 @@
 -- The instruction that bytes begin with, and the bytes after it. Two laws fix this definition: each valid instruction is
 -- read from the front of its spelling, and what is read is valid and is spelled so.
-use Rattle.std.specs.Prelude.{ℕ, ◌-◌, ◌/◌, ◌%◌, ℤ, pos, Bool, ◌&&◌, nat_lt, nat_le, ◌<◌, ◌==◌, if◌then◌else◌, Option, None, Some, List, [], ◌∷◌, slice_index}
+use Rattle.std.specs.Prelude.{ℕ, ◌-◌, ◌/◌, ◌%◌, ℤ, pos, ◌&&◌, nat_lt, nat_le, ◌<◌, ◌==◌, if◌then◌else◌, Option, None, Some, List, [], ◌∷◌, slice_index}
 use Rattle.std.specs.Int.{w8, w32, cast_signed, from_le_bytes}
 use Rattle.x86_forms.specs.declared.early.EarlyMem.{EarlyMem}
 use Rattle.x86_forms.specs.declared.early.EarlyInstr.{EarlyInstr}

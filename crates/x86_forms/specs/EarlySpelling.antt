@@ -1,6 +1,6 @@
 -- The instruction forms of the first path: which are valid, and the one spelling of each as bytes (SDM volume 2, the
 -- instructions' pages, and its chapter 2 on ModRM).
-use Rattle.std.specs.Prelude.{ℕ, ◌+◌, ◌*◌, ◌%◌, ◌^◌, ℤ, pos, negsuc, Bool, true, false, ◌&&◌, not, nat_lt, ◌==◌, if◌then◌else◌, List, [], ◌∷◌, ◌++◌}
+use Rattle.std.specs.Prelude.{ℕ, ◌+◌, ◌*◌, ℤ, pos, negsuc, Bool, true, false, ◌&&◌, not, nat_lt, ◌==◌, if◌then◌else◌, List, [], ◌∷◌, ◌++◌}
 use Rattle.std.specs.Int.{w8, w32, cast_unsigned, to_le_bytes}
 use Rattle.x86_forms.specs.declared.early.EarlyMem.{EarlyMem}
 use Rattle.x86_forms.specs.declared.early.EarlyInstr.{EarlyInstr}

@@ -1,4 +1,14 @@
-pub mod EarlySpelling
-pub mod EarlyReading
-pub mod EarlyEffects
+pub mod Accesses
+pub mod Arithmetic
 pub mod EarlyCode
+pub mod EarlyEffects
+pub mod EarlyReading
+pub mod EarlySpelling
+pub mod Fits
+pub mod Layout
+pub mod Processor
+pub mod Requests
+pub mod Room
+pub mod Spelling
+pub mod Table
+pub mod Validity

@@ -1,10 +1,23 @@
 //! The instructions of the machine: their forms, which of them are valid, the one spelling of each, and what each does.
 //!
-//! Registers, opcodes and effects are those of the Intel manual (SDM), volume 2, in 64-bit mode.
+//! Registers, widths, opcodes and effects are those of the Intel manual (SDM), volume 2, in 64-bit mode. Each valid
+//! instruction has exactly one spelling here; other bytes that a processor reads alike are no instruction.
 #![tactic(auto)]
 
+mod accesses;
 mod early;
+mod instr;
+mod laws;
+mod layout;
+mod spans;
+mod validity;
 
+pub use accesses::reach;
 pub use early::{
     EarlyInstr, EarlyMem, early_code_is_a_row_of_instructions, early_instructions_have_one_spelling,
 };
+pub use instr::{Base, Instr, Mem, Reg, Rm};
+pub use laws::short_spellings;
+pub use layout::{Layout, Operands};
+pub use spans::{Reach, Span};
+pub use validity::valid;

@@ -1,0 +1,32 @@
+use crate::{Undecoded, decode};
+use x86_forms::{Base, Instr, Mem, Reg};
+
+#[test]
+fn reads_the_worked_bytes(rt: HostRuntime) {
+    let bndldx = Instr::Bndldx {
+        b: 0,
+        m: Mem {
+            base: Base::Reg(Reg(13)),
+            index: Some((Reg(8), 1)),
+            disp: 0,
+        },
+    };
+    // bndldx bnd0, [r13+r8] and a byte after it
+    assert_eq!(rt;
+        decode(&[0x43, 0x0F, 0x1A, 0x44, 0x05, 0x00, 0x90]),
+        Ok((bndldx, 6))
+    );
+    // bndldx bnd3, [rbx+rdx+16], cut
+    assert_eq!(rt;
+        decode(&[0x0F, 0x1A, 0x5C, 0x13]),
+        Err(Undecoded::Short { need: 5 })
+    );
+    // a bounds register code of 4
+    assert_eq!(rt;
+        decode(&[0xF3, 0x0F, 0x1B, 0x67, 0x07]),
+        Err(Undecoded::Undefined)
+    );
+    // mov eax, edi with a REX that isn't needed
+    assert_eq!(rt; decode(&[0x40, 0x89, 0xF8]), Err(Undecoded::Undefined));
+    assert_eq!(rt; decode(&[]), Err(Undecoded::Short { need: 1 }));
+}

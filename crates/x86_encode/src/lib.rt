@@ -1,0 +1,10 @@
+//! The bytes of instructions.
+#![tactic(auto)]
+
+mod bytes;
+mod layouts;
+
+pub use bytes::encode;
+
+#[cfg(test)]
+mod tests;
