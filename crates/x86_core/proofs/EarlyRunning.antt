@@ -1,19 +1,18 @@
 -- The run of code, an instruction at a time.
 use Rattle.std.proofs.Common.{◌≡◌, ℕ, ◌+◌, ◌-◌, ◌<◌, ◌≤◌, List, [], ◌∷◌, ◌++◌, length, refl, sym, ap, ◌∙◌, subst, arith, append_assoc, length-append}
-use Rattle.std.specs.Prelude.{Option, None, Some, Result, Ok, Err, IsTrue}
+use Rattle.std.specs.Prelude.{Option, None, Some, Ok, IsTrue}
 use Rattle.std.proofs.lemmas.List.{append-nil}
-use Rattle.mx_base.specs.Outside.{Adds, AddsFront, HasRisen}
-use Rattle.mx_base.specs.declared.memory.OutOfMemory.{OutOfMemory as NoMemory}
+use Rattle.mx_base.specs.Outside.{Adds, AddsFront}
 use Rattle.x86_forms.specs.declared.early.EarlyInstr.{EarlyInstr}
 use Rattle.x86_forms.specs.EarlySpelling.{is_valid, spelling}
 use Rattle.x86_forms.specs.EarlyReading.{read_form, IsBytes}
 use Rattle.x86_forms.specs.EarlyEffects.{EarlyState, EarlyEffect, Goes, Sends, Ends, CodeEnd, Undefined, effect}
-use Rattle.x86_forms.specs.EarlyCode.{CodeRun, ended, then_run, forms_run, forms_in, code_at, started, code_run}
+use Rattle.x86_forms.specs.EarlyCode.{CodeRun, ended, then_run, forms_run, forms_in, code_start, started, code_run}
 use Rattle.x86_forms.proofs.EarlyFound.{read_found}
 use Rattle.x86_forms.proofs.EarlyRows.{forms_in-read, forms_in-none, spelling_some}
 use Rattle.x86_core.specs.declared.early.EarlyStop.{EarlyStop}
 use Rattle.x86_core.specs.declared.early.EarlyStop.TheVariants as stops
-use Rattle.x86_core.specs.declared.early.machine.Step.TheVariants.{On, Put, End}
+use Rattle.x86_core.specs.declared.early.machine.Step.TheVariants.{End}
 use Rattle.x86_core.specs.EarlyMachine.{TellsEnd, Does}
 use Rattle.x86_core.specs.EarlyRuns.{EndsAs, RunsCode}
 
@@ -40,7 +39,7 @@ pub record SoFar (run : CodeRun) (held held' : Option (List ℕ)) (rest : CodeRu
 SoFar-at : (run : CodeRun) (held held' : Option (List ℕ)) (rest rest' : CodeRun) → rest ≡ rest' → SoFar run held held' rest → SoFar run held held' rest'
 SoFar-at run held held' rest rest' e s = subst (λ (r : CodeRun). SoFar run held held' r) e s
 
-pub begun : (code : List ℕ) (size : ℕ) (held : Option (List ℕ)) (s : EarlyState) (at : ℕ) → s ≡ started size → at ≡ code_at → SoFar (code_run code size) held held (forms_run (forms_in code) at s)
+pub begun : (code : List ℕ) (size : ℕ) (held : Option (List ℕ)) (s : EarlyState) (at : ℕ) → s ≡ started size → at ≡ code_start → SoFar (code_run code size) held held (forms_run (forms_in code) at s)
 unfolding code_run
 begun code size held s at e k = record { out = []; adds = Adds-none held; is = rw (e, k) refl }
 
@@ -61,7 +60,7 @@ nothing_left run held held' faults faults' bytes at s e same so_far =
 
 -- the address of the bytes that are left of the code
 abbrev pub address_of : List ℕ → List ℕ → ℕ
-address_of code left = code_at + (length code - length left)
+address_of code left = code_start + (length code - length left)
 
 -- one instruction, read from the bytes that are left of the code
 pub record Reading (code bytes : List ℕ) (i : EarlyInstr) (after : List ℕ) : Type 0 where

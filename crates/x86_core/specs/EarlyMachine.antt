@@ -1,5 +1,5 @@
 -- The machine of the first path as the state that its definition speaks of, and its steps as effects.
-use Rattle.std.specs.Prelude.{◌≡◌, ℕ, slice_index}
+use Rattle.std.specs.Prelude.{◌≡◌, slice_index}
 use Rattle.x86_forms.specs.EarlyEffects.{EarlyState, EarlyEffect, Goes, Sends, Ends, CodeEnd, Exits, Violates, Unmapped as AtUnmapped, Undefined as AtUndefined}
 use Rattle.x86_core.specs.declared.early.EarlyStop.{EarlyStop}
 use Rattle.x86_core.specs.declared.early.EarlyStop.TheVariants.{Exit, Bounds, Unmapped, Undefined, WriteFault}

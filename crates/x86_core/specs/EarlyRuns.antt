@@ -1,5 +1,5 @@
 -- What a run of code leaves in a sink, by how it ended.
-use Rattle.std.specs.Prelude.{◌≡◌, ℕ, Option, None, Some, Result, Ok, Err, List, [], ◌∷◌}
+use Rattle.std.specs.Prelude.{◌≡◌, ℕ, Option, Result, Ok, Err, List, [], ◌∷◌}
 use Rattle.mx_base.specs.Outside.{Adds, AddsFront, HasRisen}
 use Rattle.mx_base.specs.declared.memory.OutOfMemory.{OutOfMemory as NoMemory}
 use Rattle.x86_forms.specs.EarlyEffects.{CodeEnd, Exits, Violates, Unmapped as AtUnmapped, Undefined as AtUndefined}

@@ -1,11 +1,10 @@
 -- Each access of a program's code is checked.
-use Rattle.std.proofs.Common.{◌≡◌, ℕ, suc, length, ◌+◌, ◌<◌, ◌≤◌, List, [], ◌∷◌, ◌++◌, refl, sym, ap, ◌∙◌, arith}
+use Rattle.std.proofs.Common.{◌≡◌, ℕ, suc, length, ◌<◌, ◌≤◌, List, [], ◌∷◌, ◌++◌, refl, ap}
 use Rattle.std.specs.Prelude.{filter}
 use Rattle.std.specs.List.{flat_map, AllByRecursion}
 use Rattle.c_reader.specs.declared.early.Act.{Act}
 use Rattle.c_reader.specs.declared.early.Act.TheVariants.{Write, PutAt, Put}
 use Rattle.c_reader.specs.EarlyForm.{InRange}
-use Rattle.x86_forms.specs.declared.early.EarlyInstr.{EarlyInstr}
 use Rattle.x86_forms.specs.EarlyCode.{forms_in}
 use Rattle.x86_lower.specs.EarlyProgram.{act_code, end_code, program_of, bytes_of}
 use Rattle.x86_lower.specs.EarlyChecks.{IsChecked, ends, plain, access, is_access, is_indexed, IsGuarded}

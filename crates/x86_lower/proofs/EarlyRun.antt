@@ -1,21 +1,19 @@
 -- The instructions of a program do what it means.
-use Rattle.std.proofs.Common.{◌≡◌, ℕ, ◌+◌, ◌-◌, ◌%◌, ◌^◌, ◌<◌, ◌≤◌, true, false, List, [], ◌∷◌, ◌++◌, length, get_or, refl, sym, ap, ◌∙◌, subst, arith, inl, inr, append_assoc}
-use Rattle.std.specs.Prelude.{ℤ, pos, nat_lt, nat_le, ◌==◌, ◌&&◌, slice_index, slice_set, replicate, IsTrue}
+use Rattle.std.proofs.Common.{◌≡◌, ℕ, ◌+◌, ◌-◌, ◌%◌, ◌^◌, ◌<◌, ◌≤◌, true, false, List, [], ◌∷◌, ◌++◌, length, get_or, refl, ap, ◌∙◌, arith, inl, inr}
+use Rattle.std.specs.Prelude.{pos, nat_lt, nat_le, ◌&&◌, slice_index, slice_set, replicate, IsTrue}
 use Rattle.std.specs.List.{flat_map, AllByRecursion}
-use Rattle.std.specs.Int.{w64, cast_unsigned}
 use Rattle.std.proofs.lemmas.Bool.{cases_lt, cases_eq, lt-ltb, le-ltb, and_from, le-leb}
 use Rattle.std.proofs.lemmas.List.{length-set, get_or-set_same, get_or-set_other, set_past, get_or-replicate, get_or_past, length-replicate}
 use Rattle.c_reader.specs.declared.early.Act.{Act}
 use Rattle.c_reader.specs.declared.early.Act.TheVariants.{Write, PutAt, Put}
 use Rattle.c_reader.specs.EarlyForm.{InRange}
 use Rattle.c_reader.specs.EarlyMeaning.{array_at, acts_from, early_run}
-use Rattle.x86_forms.specs.declared.early.EarlyMem.{EarlyMem}
 use Rattle.x86_forms.specs.declared.early.EarlyInstr.{EarlyInstr}
-use Rattle.x86_forms.specs.declared.early.EarlyInstr.TheVariants.{MovImm, MovByte, Movzx, Bndmk, Bndcl, Bndcu, Syscall}
+use Rattle.x86_forms.specs.declared.early.EarlyInstr.TheVariants.{MovImm, Bndmk}
 use Rattle.x86_forms.specs.EarlyReading.{IsBytes}
 use Rattle.x86_forms.specs.EarlySpelling.{is_valid, spelling}
-use Rattle.x86_forms.specs.EarlyEffects.{memory_at, EarlyState, updated, complement, address, service, effect}
-use Rattle.x86_forms.specs.EarlyCode.{CodeRun, sends_first, then_run, forms_run, forms_in, code_at, started, code_run}
+use Rattle.x86_forms.specs.EarlyEffects.{memory_start, EarlyState, updated, complement, address, service, effect}
+use Rattle.x86_forms.specs.EarlyCode.{CodeRun, sends_first, forms_run, forms_in, code_start, started, code_run}
 use Rattle.x86_forms.proofs.EarlyRows.{forms_in-spelled}
 use Rattle.x86_lower.specs.EarlyProgram.{ebx, bounds_code, act_code, end_code, program_of, bytes_of, as_code_run}
 use Rattle.x86_lower.specs.EarlyChecks.{MakesBounds}
@@ -33,15 +31,15 @@ record Inside (s : EarlyState) (index : ℕ) : Type 0 where
   not_below : nat_lt (array_at + index) (s.lower 0) ≡ false
   not_above : nat_lt (complement (s.held 0)) (array_at + index) ≡ false
   at : (array_at + index + 0) % 2 ^ 64 ≡ array_at + index
-  mapped : (nat_le memory_at (array_at + index) && nat_lt (array_at + index) (memory_at + length s.array)) ≡ true
-  place : array_at + index - memory_at ≡ index
+  mapped : (nat_le memory_start (array_at + index) && nat_lt (array_at + index) (memory_start + length s.array)) ≡ true
+  place : array_at + index - memory_start ≡ index
 
 inside : (s : EarlyState) (index : ℕ) → IsReady s → index < length s.array → Inside s index
 inside s index ready lt = record {
   not_below = le-ltb _ _ (omega (arith, ready.lower));
   not_above = le-ltb _ _ (omega (arith, ready.held, ready.some));
   at = omega (arith, ready.most);
-  mapped = and_from (nat_le memory_at (array_at + index)) (nat_lt (array_at + index) (memory_at + length s.array)) (le-leb memory_at (array_at + index) (omega arith)) (lt-ltb (array_at + index) (memory_at + length s.array) (omega arith));
+  mapped = and_from (nat_le memory_start (array_at + index)) (nat_lt (array_at + index) (memory_start + length s.array)) (le-leb memory_start (array_at + index) (omega arith)) (lt-ltb (array_at + index) (memory_start + length s.array) (omega arith));
   place = omega arith;
 }
 
@@ -153,16 +151,16 @@ pub makes_bounds : (size : ℕ) → 1 ≤ size → size ≤ 4096 → MakesBounds
 makes_bounds size some most = record {
   next = _;
   state = after_bounds size (started size);
-  leads = λ body. bounds_lead size body code_at (started size) some most;
+  leads = λ body. bounds_lead size body code_start (started size) some most;
   lower = refl;
   upper = upper_is size some most;
 }
 
 program_runs : (size : ℕ) (acts : List Act) (code : ℕ) → 1 ≤ size → size ≤ 4096 → code < 256 → AllByRecursion InRange acts
-    → forms_run (program_of size acts code) code_at (started size) ≡ as_code_run (early_run size acts code)
+    → forms_run (program_of size acts code) code_start (started size) ≡ as_code_run (early_run size acts code)
 program_runs size acts code some most fits ranges =
     let len : length (zeros size) ≡ size = length-zeros size in
-    bounds_lead size (flat_map act_code acts ++ end_code code) code_at (started size) some most
+    bounds_lead size (flat_map act_code acts ++ end_code code) code_start (started size) some most
     ∙ acts_run acts code fits ranges _ (after_bounds size (started size)) (record {
       lower = refl;
       held = rw len (upper_is size some most);
@@ -205,5 +203,5 @@ forms_in-bytes_of size acts code some most fits ranges = forms_in-spelled (progr
 pub bytes_run : (size : ℕ) (acts : List Act) (code : ℕ) → 1 ≤ size → size ≤ 4096 → code < 256 → AllByRecursion InRange acts → code_run (bytes_of size acts code) size ≡ as_code_run (early_run size acts code)
 unfolding code_run
 bytes_run size acts code some most fits ranges =
-    ap (λ (l : List EarlyInstr). forms_run l code_at (started size)) (forms_in-bytes_of size acts code some most fits ranges)
+    ap (λ (l : List EarlyInstr). forms_run l code_start (started size)) (forms_in-bytes_of size acts code some most fits ranges)
     ∙ program_runs size acts code some most fits ranges

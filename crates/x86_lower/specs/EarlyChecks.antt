@@ -1,12 +1,12 @@
 -- Code that checks each access to memory.
-use Rattle.std.specs.Prelude.{◌≡◌, ℕ, ◌+◌, ◌-◌, ℤ, pos, Bool, true, false, List, [], ◌∷◌, ◌++◌, length, filter}
+use Rattle.std.specs.Prelude.{◌≡◌, ℕ, ◌+◌, ◌-◌, pos, Bool, true, false, List, [], ◌∷◌, ◌++◌, length, filter}
 use Rattle.c_reader.specs.declared.early.Act.{Act}
 use Rattle.c_reader.specs.declared.early.Act.TheVariants.{Write, PutAt, Put}
 use Rattle.c_reader.specs.EarlyMeaning.{array_at}
 use Rattle.x86_forms.specs.declared.early.EarlyInstr.{EarlyInstr}
 use Rattle.x86_forms.specs.declared.early.EarlyInstr.TheVariants.{MovImm, MovByte, Movzx, Bndmk, Bndcl, Bndcu, Syscall}
 use Rattle.x86_forms.specs.EarlyEffects.{EarlyState, complement}
-use Rattle.x86_forms.specs.EarlyCode.{forms_run, code_at, started}
+use Rattle.x86_forms.specs.EarlyCode.{forms_run, code_start, started}
 use Rattle.x86_lower.specs.EarlyProgram.{bounds_code}
 
 -- the instruction accesses the one byte at the address in this register, and nothing else in memory
@@ -40,7 +40,7 @@ pub data IsChecked (bounds : ℕ) : List EarlyInstr → Type 0 where
 pub record MakesBounds (size : ℕ) : Type 0 where
   pub next : ℕ
   pub state : EarlyState
-  pub leads : (body : List EarlyInstr) → forms_run (bounds_code size ++ body) code_at (started size) ≡ forms_run body next state
+  pub leads : (body : List EarlyInstr) → forms_run (bounds_code size ++ body) code_start (started size) ≡ forms_run body next state
   pub lower : state.lower 0 ≡ array_at
   pub upper : complement (state.held 0) ≡ array_at + size - 1
 

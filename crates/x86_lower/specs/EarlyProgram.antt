@@ -1,5 +1,5 @@
 -- The instructions for a program of the early form.
-use Rattle.std.specs.Prelude.{ℕ, ◌+◌, ◌-◌, ℤ, pos, List, [], ◌∷◌, ◌++◌}
+use Rattle.std.specs.Prelude.{ℕ, ◌+◌, ◌-◌, pos, List, [], ◌∷◌, ◌++◌}
 use Rattle.std.specs.List.{flat_map}
 use Rattle.c_reader.specs.declared.early.Act.{Act}
 use Rattle.c_reader.specs.declared.early.Act.TheVariants.{Write, PutAt, Put}

@@ -41,7 +41,7 @@ pub enum Step {
 impl Machine {
     ghost use Rattle.std.specs.Prelude.{◌≡◌, ◌<◌, ◌-◌, ℕ, IsTrue, IfOk, MatchOption, true, false, slice_index, length};
     ghost use Rattle.x86_forms.specs.EarlySpelling.{is_valid};
-    ghost use Rattle.x86_forms.specs.EarlyEffects.{memory_at, address, updated, complement, is_mapped, effect, service};
+    ghost use Rattle.x86_forms.specs.EarlyEffects.{memory_start, address, updated, complement, is_mapped, effect, service};
     ghost use Rattle.x86_forms.specs.EarlyCode.{started};
     ghost use Rattle.x86_core.specs.EarlyMachine.{seen, Does};
     ghost use Rattle.x86_forms.specs.declared.early.EarlyInstr.TheVariants.{MovByte, Movzx, Bndcl, Bndcu};
@@ -88,7 +88,7 @@ impl Machine {
     /// The place in the array of the byte at this address.
     fn place(&self, address: u64) -> Option<usize>
         ensures { MatchOption result (is_mapped address (seen self.now) ≡ false)
-            (λ k. (is_mapped address (seen self.now) ≡ true) × (k ≡ address - memory_at) × (k < length self.now.array.items)) }
+            (λ k. (is_mapped address (seen self.now) ≡ true) × (k ≡ address - memory_start) × (k < length self.now.array.items)) }
     {
         if address >= MEMORY && address - MEMORY < self.array.len() as u64 {
             Some((address - MEMORY) as usize)

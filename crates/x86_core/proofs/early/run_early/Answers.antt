@@ -1,4 +1,4 @@
-use Rattle.std.proofs.Common.{◌≡◌, ◌+◌, ◌-◌, refl, ◌∙◌, arith, length}
+use Rattle.std.proofs.Common.{refl, ◌∙◌, arith}
 use Rattle.x86_forms.specs.EarlyEffects.{effect}
 use Rattle.x86_forms.specs.EarlyCode.{code_run}
 use Rattle.x86_core.specs.EarlyMachine.{seen}

@@ -1,10 +1,8 @@
-use Rattle.std.proofs.Common.{◌≡◌, ◌++◌, take, subst, sym, ap, ◌∙◌, arith, length, List, rules}
+use Rattle.std.proofs.Common.{◌≡◌, arith, rules}
 use Rattle.std.specs.List.{AllByRecursion}
 use Rattle.std.proofs.lemmas.Grind.{common_steps}
 use Rattle.c_reader.specs.EarlyForm.{InRange}
-use Rattle.x86_forms.specs.EarlyCode.{forms_in, code_run}
-use Rattle.x86_lower.specs.EarlyProgram.{bytes_of, as_code_run}
-use Rattle.x86_lower.specs.EarlyChecks.{IsGuarded}
+use Rattle.x86_lower.specs.EarlyProgram.{bytes_of}
 use Rattle.x86_lower.proofs.EarlyRun.{bytes_run}
 use Rattle.x86_lower.proofs.EarlyGuard.{bytes_guarded}
 use Rattle.x86_lower.proofs.early.lower_early.Goals as goal
