@@ -3,7 +3,7 @@ use Rattle.std.proofs.Common.{◌≡◌, ℕ, ◌+◌, ◌-◌, ◌<◌, ◌≤�
 use Rattle.std.proofs.Math.Seq.{take-add, take-length}
 use Rattle.std.proofs.lemmas.Grind.{common_steps}
 use Rattle.std.proofs.lemmas.List.{take-append-drop, take_all, length-take, length-take-le, length-append, length-drop, take-append-le}
-use Rattle.mx_base.specs.declared.outside.Failed.{Failed}
+use Rattle.mx_base.specs.declared.externals.Failed.{Failed}
 use Rattle.mx_base.specs.Outside.{FileFacts, Untold, Absent, Holds, Reads}
 use Rattle.mpx_main.specs.Sources.{IsReadFrom, IsFrontOf}
 
