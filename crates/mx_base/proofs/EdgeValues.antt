@@ -1,5 +1,5 @@
 -- The definitions at values that are known from the rules that they state.
-use Rattle.std.proofs.Common.{◌≡◌, ℕ, zero, suc, ◌-◌, Bool, true, false, None, Some, List, [], ◌∷◌, ◌++◌, pos, negsuc, codes, replicate, refl}
+use Rattle.std.proofs.Common.{◌≡◌, ℕ, zero, suc, ◌-◌, Bool, true, false, Option, None, Some, Result, Ok, Err, List, [], ◌∷◌, ◌++◌, pos, negsuc, codes, replicate, refl}
 use Rattle.std.specs.Fmt.{digits}
 use Rattle.mx_base.specs.declared.limits.Bounds.{Bounds}
 use Rattle.mx_base.specs.declared.numbers.IntKind.TheVariants.{I8, U8, I32, I64, U64}
@@ -7,11 +7,12 @@ use Rattle.mx_base.specs.Numbers.{residue, as_signed, number_of, value_of, wrapp
 use Rattle.mx_base.specs.Operators.{Over, Rest, Left, Right, arithmetic}
 use Rattle.mx_base.specs.Bounds.{last_byte, leaving_value, is_outside, bounds_at, full_bounds, met}
 use Rattle.mx_base.specs.Regions.{is_readable, is_writable, is_executable, is_sealed, is_open_to_read, is_open_to_write}
-use Rattle.mx_base.specs.Memory.{no_bytes, first_refused, first_refused_around}
+use Rattle.mx_base.specs.Memory.{no_bytes, number_at, with_number, first_refused, first_refused_around}
 use Rattle.mx_base.specs.Access.{refusal, Strays, Misses}
-use Rattle.mx_base.specs.BoundsStore.{touched_with}
+use Rattle.mx_base.specs.BoundsStore.{touched_with, keep_bounds, load_bounds, bounds_for, empty_store}
 use Rattle.mx_base.specs.Walk.{directory_entry_at, table_entry_at, next_entry}
 use Rattle.mx_base.specs.Heap.{Range, Heap, whole_heap, rounded, allocated, freed, heap_after, Allocs, Frees}
+use Rattle.mx_base.specs.World.{World, world_at_start, number_written, pointer_written, pointer_read}
 use Rattle.mx_base.specs.Services.{Guest, guest_with, Served, Answers, Exits, served, service_of}
 
 -- ---- regions: whether an address can be read, written and executed, whether it is sealed, and whether C may read and write it
@@ -180,6 +181,38 @@ walks = (refl, refl, refl, refl)
 tables_made : (next_entry 0 ≡ 0x5000_0000_0001) × (next_entry 1 ≡ 0x5000_0040_0001) × (next_entry 1023 ≡ 0x5000_ffc0_0001)
 unfolding next_entry
 tables_made = (refl, refl, refl)
+
+-- where a table is wanting, the pointer's bytes are written all the same, and nothing is kept
+abbrev full_world : World
+full_world = record (world_at_start no_bytes [] 0) { store = record empty_store { touched = megabytes 1024 } }
+
+abbrev stopped_number : Result World World → Option ℕ
+unfolding number_at
+stopped_number (Ok w) = None
+stopped_number (Err w) = Some (number_at 8 w.bytes 0x5000_0000)
+
+no_table_after_bytes : stopped_number (pointer_written full_world 0x5000_0000 0x1234 full_bounds) ≡ Some 0x1234
+unfolding pointer_written keep_bounds touched_with number_at with_number
+no_table_after_bytes = refl
+
+-- a pointer is read with the bounds that it was written with, until its bytes are written otherwise
+abbrev read_bounds : Result World World → Option Bounds
+unfolding pointer_read load_bounds bounds_for touched_with number_at
+read_bounds (Ok w) = elim (pointer_read w 0x3000_0000) as (λ r. Option Bounds) [ Ok t ↦ Some t.1 | Err u ↦ None ]
+read_bounds (Err w) = None
+
+kept_for_the_value : read_bounds (pointer_written (world_at_start no_bytes [] 0) 0x3000_0000 0x2000_0000 (pair 0x2000_0000 0x2000_0003)) ≡ Some (pair 0x2000_0000 0x2000_0003)
+unfolding pointer_written keep_bounds pointer_read load_bounds bounds_for touched_with number_at with_number
+kept_for_the_value = refl
+
+abbrev spoiled : Result World World → Result World World
+unfolding with_number
+spoiled (Ok w) = Ok (number_written 1 w 0x3000_0000 9)
+spoiled (Err w) = Err w
+
+not_for_another_value : read_bounds (spoiled (pointer_written (world_at_start no_bytes [] 0) 0x3000_0000 0x2000_0000 (pair 0x2000_0000 0x2000_0003))) ≡ Some full_bounds
+unfolding pointer_written keep_bounds pointer_read load_bounds bounds_for touched_with number_at with_number
+not_for_another_value = refl
 
 -- ---- the heap
 

@@ -8,3 +8,4 @@ pub mod RegionsLemmas
 pub mod MemoryLemmas
 pub mod EdgeValues
 pub mod HeapOrder
+pub mod BoundsLemmas

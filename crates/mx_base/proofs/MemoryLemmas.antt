@@ -1,9 +1,11 @@
 -- What is written is read back, and nothing else changes.
-use Rattle.std.proofs.Common.{◌≡◌, ℕ, zero, suc, ◌+◌, ◌*◌, ◌/◌, ◌%◌, ◌^◌, ◌<◌, ◌≤◌, Bool, true, false, cond, ◌==◌, nat_lt, None, Some, List, [], ◌∷◌, length, refl, ap, ◌∙◌, arith}
+use Rattle.std.proofs.Common.{Option, ◌≡◌, ℕ, zero, suc, ◌+◌, ◌-◌, ◌*◌, ◌/◌, ◌%◌, ◌^◌, min, ◌<◌, ◌≤◌, Bool, true, false, cond, ◌==◌, nat_lt, None, Some, List, [], ◌∷◌, length, refl, ap, ◌∙◌, arith}
 use Rattle.std.proofs.lemmas.Bool.Decides.{nat_tests}
 use Rattle.std.proofs.Math.Arith.{mod-mul}
 use Rattle.std.proofs.Math.Nat.{pow-suc}
-use Rattle.mx_base.specs.Memory.{Bytes, with_byte, number_at, with_number, list_at, with_list, AreBytes, first_refused}
+use Rattle.mx_base.specs.Memory.{Bytes, with_byte, number_at, with_number, list_at, with_list, AreBytes, first_refused, first_refused_around}
+use Rattle.mx_base.specs.Bounds.{addresses}
+use Rattle.std.specs.Option.{option_or}
 
 pub with_byte_here : (m : Bytes) (a b : ℕ) → with_byte m a b a ≡ b
 with_byte_here m a b = grind (arith, nat_tests)
@@ -135,3 +137,15 @@ first_refused-all test zero a all = refl
 first_refused-all test (suc n) a all =
     let first = all a (omega arith) (omega arith) in
     rw first (first_refused-all test n (a + 1) (λ x low high. all x (omega arith) (omega arith)))
+
+or_none : {X : Type 0} (o : Option X) → option_or o None ≡ o
+or_none None = refl
+or_none (Some x) = refl
+
+-- bytes that end at the last address or before go around nothing
+pub first_refused_around-plain : (test : ℕ → Bool) (n a : ℕ) → a + n ≤ addresses → first_refused_around test n a ≡ first_refused test n a
+unfolding first_refused_around first_refused
+first_refused_around-plain test n a within =
+    let all : min n (addresses - a) ≡ n = omega arith in
+    let rest : n - (addresses - a) ≡ 0 = omega arith in
+    rw (all, rest) (or_none (first_refused test n a))

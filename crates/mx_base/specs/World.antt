@@ -1,9 +1,9 @@
 -- The world that C, legacy code and the machine share, and beside it what decides nothing.
-use Rattle.std.specs.Prelude.{ℕ, Bool, Option, None, List, []}
+use Rattle.std.specs.Prelude.{ℕ, Bool, true, false, Option, None, Some, Result, Ok, Err, List, [], ◌∷◌, ◌++◌}
 use Rattle.mx_base.specs.declared.limits.Bounds.{Bounds}
 use Rattle.mx_base.specs.Regions.{data_stack, legacy_stack, region_end}
-use Rattle.mx_base.specs.Memory.{Bytes}
-use Rattle.mx_base.specs.BoundsStore.{BoundsStore, empty_store}
+use Rattle.mx_base.specs.Memory.{Bytes, number_at, with_number}
+use Rattle.mx_base.specs.BoundsStore.{BoundsStore, empty_store, keep_bounds, load_bounds}
 use Rattle.mx_base.specs.Services.{Guest, guest_with}
 
 -- the registers that C never touches
@@ -48,6 +48,40 @@ world_at_start bytes input turns = record {
   legacy_sp = region_end legacy_stack;
   accesses = [];
 }
+
+-- ---- accesses of C that were judged, and are done
+
+abbrev pub noted : Access → World → World
+noted a w = record w { accesses = w.accesses ++ a ∷ [] }
+
+-- a read of n bytes
+abbrev pub read_noted : ℕ → World → ℕ → World
+read_noted n w p = noted record { write = false; at = p; size = n } w
+
+-- a write of a number of n bytes
+abbrev pub number_written : ℕ → World → ℕ → ℕ → World
+number_written n w p v = noted record { write = true; at = p; size = n } record w { bytes = with_number n w.bytes p v }
+
+abbrev pub with_store : World → BoundsStore → World
+with_store w s = record w { store = s }
+
+-- a world that goes on with a store, or that stops as it is, for want of a table
+abbrev pub stored_or_stopped : World → Option BoundsStore → Result World World
+stored_or_stopped w None = Err w
+stored_or_stopped w (Some s) = Ok (with_store w s)
+
+abbrev pub loaded_or_stopped : World → ℕ → Option (Bounds × BoundsStore) → Result (ℕ × Bounds × World) World
+loaded_or_stopped w v None = Err w
+loaded_or_stopped w v (Some p) = Ok (v, p.0, with_store w p.1)
+
+-- a pointer is written: first its 8 bytes, and then its bounds are kept. An Err has the world as the stop NoTable leaves it, which
+-- comes between the two.
+unfoldable pub pointer_written : World → ℕ → ℕ → Bounds → Result World World
+pointer_written w p v b = let t = number_written 8 w p v in stored_or_stopped t (keep_bounds t.store p v b)
+
+-- a pointer is read: first its 8 bytes, and then its bounds are loaded; Ok has its value and its bounds
+unfoldable pub pointer_read : World → ℕ → Result (ℕ × Bounds × World) World
+pointer_read w p = let t = read_noted 8 w p in let v = number_at 8 w.bytes p in loaded_or_stopped t v (load_bounds t.store p v)
 
 -- ---- what decides nothing
 
