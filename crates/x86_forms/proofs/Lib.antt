@@ -3,4 +3,7 @@ pub mod EarlyFound
 pub mod EarlyRows
 pub mod RexBits
 pub mod ShortCode
+pub mod TableAccesses
+pub mod TableAlike
+pub mod TableKeeps
 pub mod Writable

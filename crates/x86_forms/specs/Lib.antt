@@ -11,4 +11,5 @@ pub mod Requests
 pub mod Room
 pub mod Spelling
 pub mod Table
+pub mod TableLaws
 pub mod Validity

@@ -10,6 +10,7 @@ mod instr;
 mod laws;
 mod layout;
 mod spans;
+mod table_laws;
 mod validity;
 
 pub use accesses::reach;
@@ -20,4 +21,8 @@ pub use instr::{Base, Instr, Mem, Reg, Rm};
 pub use laws::short_spellings;
 pub use layout::{Layout, Operands};
 pub use spans::{Reach, Span};
+pub use table_laws::{
+    StandsFor, failing_rows_leave_all, memories_do_rows_alike, rows_leave_bounds,
+    rows_make_their_accesses,
+};
 pub use validity::valid;
