@@ -1,0 +1,5 @@
+pub mod Ends
+pub mod Touched
+pub mod Paged
+pub mod Answers
+pub mod Frames
