@@ -1,14 +1,14 @@
 -- What the answers of a memory are, by what was found.
-use Rattle.std.proofs.Common.{◌≡◌, ℕ, ◌+◌, ◌-◌, ◌<◌, ◌≤◌, min, Bool, true, false, cond, nat_lt, Option, None, Some, Result, Ok, Err, List, length, refl, sym, ap, ◌∙◌, subst, arith}
+use Rattle.std.proofs.Common.{◌≡◌, ℕ, ◌-◌, ◌<◌, min, true, false, nat_lt, Option, None, Some, Result, Ok, Err, List, length, refl, ap, ◌∙◌, subst, arith}
 use Rattle.std.proofs.lemmas.Bool.Decides.{nat_tests}
-use Rattle.mx_base.specs.Regions.{is_readable, is_writable, is_executable}
-use Rattle.mx_base.specs.Memory.{Bytes, number_at, with_number, list_at, with_list, first_refused}
+use Rattle.mx_base.specs.Regions.{is_readable, is_writable}
+use Rattle.mx_base.specs.Memory.{Bytes, number_at, with_number, with_list, first_refused}
 use Rattle.paged_memory.specs.declared.stops.MemStop.{MemStop}
 use Rattle.paged_memory.specs.declared.stops.MemStop.TheVariants.{Unmapped}
 use Rattle.paged_memory.specs.Ends.{run_end}
 use Rattle.paged_memory.specs.Answers.{unless_refused, load_answer, read_answer, store_answer, write_answer, place_answer, fetch_answer, Writes}
 use Rattle.paged_memory.specs.Paged.{Paged, bytes_of}
-use Rattle.paged_memory.proofs.Regions.{executable_by_end, run_end_covers}
+use Rattle.paged_memory.proofs.Regions.{executable_by_end}
 
 refused : {X : Type 0} → (o : Option ℕ) (x : ℕ) (v : X) → o ≡ Some x → unless_refused o v ≡ Err (Unmapped x)
 refused o x v e = rw e refl

@@ -1,12 +1,10 @@
 -- Bytes of pages whose frames a one-to-one map names.
-use Rattle.std.proofs.Common.{◌≡◌, ◌≢◌, ◌⊎◌, ℕ, zero, suc, ◌+◌, ◌-◌, ◌*◌, ◌/◌, ◌%◌, ◌<◌, ◌≤◌, Bool, true, false, cond, ◌==◌, Option, None, Some, List, [], ◌∷◌, ◌++◌, length, get_or, take, drop, replicate, refl, sym, ap, ◌∙◌, subst, arith, inl, inr, length-append, length-take, length-drop}
-use Rattle.std.proofs.lemmas.Bool.Decides.{eqb_tells}
+use Rattle.std.proofs.Common.{◌≡◌, ◌⊎◌, ℕ, zero, suc, ◌+◌, ◌-◌, ◌*◌, ◌/◌, ◌%◌, ◌<◌, ◌≤◌, Option, None, Some, List, [], ◌∷◌, ◌++◌, length, get_or, take, drop, replicate, refl, sym, ap, ◌∙◌, subst, arith, inl, inr, length-append, length-take, length-drop}
 use Rattle.std.proofs.lemmas.Bool.{cases_lt}
-use Rattle.std.proofs.lemmas.List.{take-append-drop, take-take, drop-take, get_or-take, get_or-drop, get_or_append_left, get_or-append_right, take_all, drop_more, get_or_past}
-use Rattle.std.proofs.lemmas.Nat.{same_from_place}
+use Rattle.std.proofs.lemmas.List.{take-append-drop, take-take, drop-take, get_or-take, get_or-drop, get_or_append_left, get_or-append_right, drop_more}
 use Rattle.mx_base.specs.Memory.{Bytes, with_byte, list_at, with_list}
 use Rattle.mx_base.proofs.MemoryLemmas.{with_list_below, with_list_above, with_byte_here}
-use Rattle.paged_memory.specs.Frames.{byte_in, byte_under, IsOneToOne, LieWithin, put_at}
+use Rattle.paged_memory.specs.Frames.{byte_in, byte_under, IsOneToOne, put_at}
 
 -- ---- lists of bytes in a memory
 

@@ -1,10 +1,11 @@
 -- Which of some addresses is the first that no region allows.
-use Rattle.std.proofs.Common.{◌≡◌, ◌⊎◌, ℕ, zero, suc, ◌+◌, ◌-◌, ◌<◌, ◌≤◌, Bool, true, false, cond, ◌&&◌, ◌||◌, nat_le, nat_lt, Option, None, Some, List, [], ◌∷◌, refl, sym, ap, ◌∙◌, subst, arith, inl, inr}
+use Rattle.std.proofs.Common.{◌≡◌, ℕ, zero, suc, ◌+◌, ◌-◌, ◌<◌, ◌≤◌, min, Bool, true, false, cond, ◌&&◌, ◌||◌, nat_lt, Option, None, Some, List, [], ◌∷◌, refl, sym, ap, ◌∙◌, subst, arith, inl, inr}
 use Rattle.std.specs.List.{list_any}
 use Rattle.std.proofs.lemmas.Bool.Decides.{nat_tests}
 use Rattle.std.proofs.lemmas.Bool.{cases_lt}
-use Rattle.mx_base.specs.Regions.{Region, regions, is_in, is_readable, is_writable, is_executable, instrumented_code, legacy_code, data_region, heap_region, data_stack, legacy_stack, cells, control_stack, directory, tables}
-use Rattle.mx_base.specs.Memory.{first_refused}
+use Rattle.mx_base.specs.Regions.{Region, regions, is_in, is_readable, is_writable, is_executable}
+use Rattle.mx_base.specs.Memory.{first_refused, first_refused_around}
+use Rattle.mx_base.specs.Bounds.{addresses}
 use Rattle.paged_memory.specs.Ends.{end_among, run_end}
 
 pub refused-here : (test : ℕ → Bool) (n a : ℕ) → 0 < n → test a ≡ false → first_refused test n a ≡ Some a
@@ -145,3 +146,18 @@ writable_past n a e same past = by_end n a e (run_end (λ r. r.write) a) (first_
 
 pub writable_all : (n a e : ℕ) → e ≡ run_end (λ r. r.write) a → n ≤ e - a → first_refused is_writable n a ≡ None
 writable_all n a e same fits = all_by_end n a e (run_end (λ r. r.write) a) (first_refused is_writable n a) same (writable_refused n a) fits
+
+-- ---- bytes that may go past the last address
+
+pub around_past : (n a e : ℕ) → e ≡ run_end (λ r. true) a → a ≤ e → e < addresses → e - a < n → first_refused_around is_readable n a ≡ Some e
+unfolding first_refused_around
+around_past n a e same from fits past =
+    let more : e - a < min n (addresses - a) = omega arith in
+    rw (readable_past (min n (addresses - a)) a e same more) refl
+
+pub around_all : (n a e : ℕ) → e ≡ run_end (λ r. true) a → a ≤ e → e < addresses → n ≤ e - a → first_refused_around is_readable n a ≡ None
+unfolding first_refused_around
+around_all n a e same from fits all =
+    let less : min n (addresses - a) ≤ e - a = omega arith in
+    let none : n - (addresses - a) ≡ 0 = omega arith in
+    rw (readable_all (min n (addresses - a)) a e same less, none) (refused-none is_readable 0 0 (λ x low high. absurd (omega arith)))

@@ -1,15 +1,14 @@
 -- What callers see of slots and frames has the bytes and pages that stand there.
-use Rattle.std.proofs.Common.{◌≡◌, ℕ, zero, suc, ◌+◌, ◌-◌, ◌*◌, ◌/◌, ◌%◌, ◌<◌, ◌≤◌, Bool, true, false, cond, ◌==◌, Option, None, Some, List, [], ◌∷◌, length, map, Ok, Result, ◌++◌, get_or, take, drop, refl, sym, ap, ◌∙◌, arith}
+use Rattle.std.proofs.Common.{◌≡◌, ℕ, ◌+◌, ◌-◌, ◌*◌, ◌/◌, ◌%◌, ◌<◌, ◌≤◌, true, false, cond, ◌==◌, Some, List, [], ◌∷◌, length, map, Ok, ◌++◌, take, drop, refl, sym, ap, ◌∙◌, arith}
 use Rattle.std.specs.Prelude.{slice_index, slice_range}
 use Rattle.std.specs.List.{find}
 use Rattle.std.proofs.lemmas.List.{get_or-take, get_or-drop}
 use Rattle.paged_memory.specs.declared.slots.Slot.{Slot}
 use Rattle.paged_memory.specs.Paged.{page_bytes, byte_of_page, bytes_of, touched_of}
 use Rattle.paged_memory.specs.Frames.{frame_in, frame_number, pages_in, byte_in, byte_under, page_of, paged_of}
-use Rattle.mx_base.specs.Memory.{Bytes, with_list}
-use Rattle.paged_memory.specs.declared.stops.MemStop.{MemStop}
+use Rattle.mx_base.specs.Memory.{with_list}
 use Rattle.paged_memory.specs.Touched.{touched_by}
-use Rattle.paged_memory.specs.Answers.{IsShort, Touches, Writes}
+use Rattle.paged_memory.specs.Answers.{IsShort, Writes}
 use Rattle.paged_memory.proofs.SlotLists.{length-pages_in}
 use Rattle.std.proofs.lemmas.Grind.{common_steps}
 

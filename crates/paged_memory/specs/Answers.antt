@@ -3,7 +3,7 @@ use Rattle.std.specs.Prelude.{◌≡◌, ℕ, ◌-◌, ◌<◌, ◌≤◌, min, 
 use Rattle.paged_memory.specs.declared.stops.MemStop.{MemStop}
 use Rattle.paged_memory.specs.declared.stops.MemStop.TheVariants.{Unmapped, NoFrames}
 use Rattle.mx_base.specs.Regions.{is_readable, is_writable, is_executable}
-use Rattle.mx_base.specs.Memory.{Bytes, number_at, with_number, list_at, with_list, first_refused}
+use Rattle.mx_base.specs.Memory.{Bytes, number_at, with_number, with_list, first_refused}
 use Rattle.paged_memory.specs.Ends.{run_end}
 use Rattle.paged_memory.specs.Touched.{touched_by, frames_for}
 use Rattle.paged_memory.specs.Paged.{Paged, bytes_of, touched_of, in_use_of}

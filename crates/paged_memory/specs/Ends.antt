@@ -1,5 +1,5 @@
 -- How far the region of an address reaches.
-use Rattle.std.specs.Prelude.{ℕ, ◌+◌, ◌-◌, nat_le, nat_lt, Bool, ◌&&◌, if◌then◌else◌, List, [], ◌∷◌}
+use Rattle.std.specs.Prelude.{ℕ, nat_le, nat_lt, Bool, ◌&&◌, if◌then◌else◌, List, [], ◌∷◌}
 use Rattle.mx_base.specs.Regions.{Region, regions, is_in, region_end}
 
 abbrev pub is_between : ℕ → ℕ → ℕ → Bool

@@ -1,6 +1,7 @@
 //! How far the region of an address reaches.
-ghost use Rattle.std.specs.Prelude.{◌≡◌, ℕ, ◌+◌, ◌≤◌, true};
-ghost use Rattle.mx_base.specs.Regions.{Region, is_in};
+ghost use Rattle.std.specs.Prelude.{◌≡◌, ℕ, ◌+◌, ◌≤◌, ◌<◌, ◌^◌, None, true};
+ghost use Rattle.mx_base.specs.Regions.{Region, is_in, is_readable};
+ghost use Rattle.mx_base.specs.Memory.{first_refused, first_refused_around};
 ghost use Rattle.paged_memory.specs.Ends.{run_end, is_between};
 
 #[inline(always)]
@@ -68,4 +69,13 @@ pub fn any_end(a: u64) -> u64
         return 0x1300_0000;
     }
     data_end(a)
+}
+
+/// The first of `n` bytes from `a` on that no region has, where bytes go on from address 0 behind the last one.
+pub fn first_unmapped(a: u64, n: u64) -> Option<u64>
+    ensures first { result ≡ first_refused_around is_readable n a }
+    ensures all { result ≡ None → (first_refused is_readable n a ≡ None) × (a + n < 2 ^ 64) }
+{
+    let end = any_end(a);
+    if n > end - a { Some(end) } else { None }
 }

@@ -7,5 +7,6 @@ mod memory;
 mod slots;
 mod stops;
 
+pub use ends::first_unmapped;
 pub use memory::Memory;
 pub use stops::MemStop;

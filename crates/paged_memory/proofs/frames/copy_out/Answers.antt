@@ -1,5 +1,5 @@
 use Rattle.std.specs.Prelude.{length}
-use Rattle.std.proofs.Common.{◌≡◌, ◌∙◌, sym, ap, arith, ◌+◌, ◌-◌, ◌++◌, ◌%◌}
+use Rattle.std.proofs.Common.{◌≡◌, ◌∙◌, sym, ap, arith, ◌+◌, ◌++◌}
 use Rattle.mx_base.specs.Memory.{list_at}
 use Rattle.paged_memory.specs.Frames.{frame_in, byte_under}
 use Rattle.paged_memory.proofs.PageBytes.{list_at-add}

@@ -1,7 +1,7 @@
 use Rattle.std.specs.Prelude.{length}
-use Rattle.std.proofs.Common.{◌≡◌, ◌∙◌, sym, ap, arith, ℕ, ◌+◌, ◌-◌, ◌/◌, ◌%◌, ◌<◌, ◌≤◌, subst, take, drop}
+use Rattle.std.proofs.Common.{◌∙◌, sym, ap, arith, ◌+◌, ◌-◌, ◌/◌, take, drop}
 use Rattle.mx_base.specs.Memory.{with_list}
-use Rattle.paged_memory.specs.Touched.{touched_by, touched_with}
+use Rattle.paged_memory.specs.Touched.{touched_with}
 use Rattle.paged_memory.specs.Frames.{frame_in, pages_in, byte_under}
 use Rattle.paged_memory.proofs.PageLists.{touched_by-none, touched_by-step, length-touched_front}
 use Rattle.paged_memory.proofs.PageBytes.{with_list-none, with_list_piece}

@@ -1,8 +1,8 @@
 use Rattle.std.specs.Prelude.{length}
-use Rattle.std.proofs.Common.{◌≡◌, ◌∙◌, sym, ap, arith, ℕ, ◌+◌, ◌*◌, ◌/◌, ◌%◌, ◌<◌, ◌≤◌, subst, List}
+use Rattle.std.proofs.Common.{◌∙◌, sym, ap, arith, ℕ, ◌+◌, ◌*◌, ◌/◌, ◌%◌, ◌≤◌, subst, List}
 use Rattle.mx_base.specs.Memory.{with_list}
 use Rattle.paged_memory.specs.Touched.{touched_with}
-use Rattle.paged_memory.specs.Frames.{frame_in, pages_in, byte_under, IsSound, HasFrame, put_at}
+use Rattle.paged_memory.specs.Frames.{frame_in, pages_in, byte_under, IsSound, HasFrame}
 use Rattle.paged_memory.specs.declared.slots.Slot.{Slot}
 use Rattle.paged_memory.proofs.PageBytes.{put_at-under}
 use Rattle.paged_memory.proofs.SlotLists.{length-pages_in, sound_put, lie_within}

@@ -1,7 +1,7 @@
-use Rattle.std.specs.Prelude.{length, vec_capacity}
-use Rattle.std.proofs.Common.{◌≡◌, ◌∙◌, sym, ap, arith, ℕ, ◌+◌, ◌<◌, ◌≤◌, subst, List, None}
+use Rattle.std.specs.Prelude.{length}
+use Rattle.std.proofs.Common.{◌∙◌, sym, ap, arith, ℕ, subst, List}
 use Rattle.paged_memory.specs.declared.slots.Slot.{Slot}
-use Rattle.paged_memory.specs.Frames.{frame_in, slot_placed, HasFrame}
+use Rattle.paged_memory.specs.Frames.{frame_in, HasFrame}
 use Rattle.paged_memory.proofs.SlotLists.{has_old_frame, has_new_frame, length-touched_new}
 use Rattle.paged_memory.proofs.slots.frame_for.Goals as goal
 

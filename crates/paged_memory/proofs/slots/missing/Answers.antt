@@ -1,7 +1,7 @@
 use Rattle.std.specs.Prelude.{length}
-use Rattle.std.proofs.Common.{◌≡◌, ◌⊎◌, ◌∙◌, sym, ap, arith, ℕ, ◌+◌, ◌%◌, ◌/◌, ◌<◌, ◌≤◌, inl, inr, true, false, Bool, not}
+use Rattle.std.proofs.Common.{◌≡◌, ◌∙◌, ap, arith, ◌+◌, ◌%◌, ◌/◌, ◌<◌, inl, inr, true, false, not}
 use Rattle.paged_memory.specs.Frames.{pages_in}
-use Rattle.paged_memory.specs.Touched.{touched_by, has_page}
+use Rattle.paged_memory.specs.Touched.{has_page}
 use Rattle.paged_memory.proofs.PageLists.{touched_by-none, piece_adds}
 use Rattle.paged_memory.proofs.SlotLists.{has_by_none}
 use Rattle.paged_memory.proofs.slots.missing.Goals as goal

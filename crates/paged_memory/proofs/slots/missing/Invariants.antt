@@ -1,4 +1,4 @@
-use Rattle.std.proofs.Common.{◌≡◌, ℕ, ◌+◌, ◌-◌, ◌%◌, ◌<◌, ◌≤◌, ◌⊎◌, length}
+use Rattle.std.proofs.Common.{◌≡◌, ◌+◌, ◌-◌, ◌%◌, ◌<◌, ◌≤◌, ◌⊎◌, length}
 use Rattle.paged_memory.specs.Touched.{touched_by}
 use Rattle.paged_memory.specs.Frames.{pages_in}
 use Rattle.paged_memory.proofs.slots.missing.Given as goal

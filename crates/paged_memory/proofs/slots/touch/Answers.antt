@@ -1,6 +1,5 @@
 use Rattle.std.specs.Prelude.{length, slice_index_or, nat_lt, true, false}
-use Rattle.std.specs.List.{insert}
-use Rattle.std.proofs.Common.{◌≡◌, ◌∙◌, sym, ap, arith, ℕ, ◌<◌, ◌≤◌, subst, List}
+use Rattle.std.proofs.Common.{◌≡◌, ◌∙◌, ap, ℕ, ◌<◌, ◌≤◌, subst, List}
 use Rattle.paged_memory.specs.declared.slots.Slot.{Slot}
 use Rattle.paged_memory.specs.Frames.{slot_placed}
 use Rattle.paged_memory.proofs.SlotLists.{insert_placed}

@@ -1,6 +1,6 @@
 use Rattle.std.specs.Prelude.{length}
 use Rattle.std.specs.Int.{w64, from_le_bytes}
-use Rattle.std.proofs.Common.{◌≡◌, ◌∙◌, sym, ap, arith, ℕ, ◌≤◌, ◌+◌, ◌-◌, take, drop, replicate, length-take-le, List, ◌++◌}
+use Rattle.std.proofs.Common.{◌≡◌, ◌∙◌, ap, arith, ℕ, ◌≤◌, ◌-◌, take, drop, replicate, length-take-le, List, ◌++◌}
 use Rattle.std.proofs.lemmas.List.{drop-replicate}
 use Rattle.mx_base.specs.Memory.{list_at}
 use Rattle.paged_memory.specs.Paged.{bytes_of}

@@ -1,5 +1,5 @@
 use Rattle.std.specs.Prelude.{length}
-use Rattle.std.proofs.Common.{◌≡◌, ◌∙◌, sym, ap, arith, subst, true, ℕ, ◌≤◌, ◌-◌, Result}
+use Rattle.std.proofs.Common.{sym, subst, true, ℕ, ◌≤◌, Result}
 use Rattle.mx_base.specs.Memory.{Bytes}
 use Rattle.paged_memory.specs.declared.stops.MemStop.{MemStop}
 use Rattle.paged_memory.specs.Paged.{bytes_of}

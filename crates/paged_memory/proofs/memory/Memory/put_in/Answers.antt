@@ -1,5 +1,5 @@
 use Rattle.std.specs.Prelude.{length}
-use Rattle.std.proofs.Common.{◌≡◌, ◌∙◌, sym, ap, arith, subst, refl, true, ℕ, ◌≤◌, ◌<◌, ◌+◌, ◌-◌, take, drop, Ok, Err, Result, List}
+use Rattle.std.proofs.Common.{◌≡◌, ◌∙◌, sym, ap, arith, subst, refl, ℕ, ◌+◌, drop, Ok, List}
 use Rattle.mx_base.specs.Memory.{with_list}
 use Rattle.paged_memory.specs.declared.slots.Slot.{Slot}
 use Rattle.paged_memory.specs.Paged.{Paged, bytes_of}

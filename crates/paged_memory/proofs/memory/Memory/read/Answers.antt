@@ -1,5 +1,5 @@
 use Rattle.std.specs.Prelude.{length}
-use Rattle.std.proofs.Common.{◌≡◌, ◌∙◌, sym, ap, arith, subst, true, ℕ, ◌≤◌, ◌-◌}
+use Rattle.std.proofs.Common.{◌≡◌, ◌∙◌, sym, ap, subst, true, ℕ, ◌≤◌}
 use Rattle.mx_base.specs.Memory.{list_at}
 use Rattle.paged_memory.specs.Paged.{bytes_of}
 use Rattle.paged_memory.specs.Frames.{frame_in, byte_under}

@@ -1,6 +1,5 @@
 use Rattle.std.specs.Prelude.{length}
-use Rattle.std.specs.Int.{w64, to_le_bytes}
-use Rattle.std.proofs.Common.{◌≡◌, ◌∙◌, sym, ap, arith, subst, true, ℕ, ◌≤◌, ◌-◌, take, length-take-le}
+use Rattle.std.proofs.Common.{◌≡◌, ◌∙◌, ap, arith, take, length-take-le}
 use Rattle.mx_base.specs.Memory.{with_list}
 use Rattle.paged_memory.specs.Paged.{bytes_of}
 use Rattle.paged_memory.proofs.Numbers.{with_number_bytes, width_most}

@@ -1,0 +1,4 @@
+pub mod BlockLists
+pub mod Heaps
+pub mod Sinks
+pub mod Serving

@@ -1,0 +1,121 @@
+ghost use Rattle.std.specs.Prelude.{◌≡◌, ℕ, true, false, Some, None, IfOk};
+ghost use Rattle.mx_base.specs.Heap.{whole_heap, allocated, freed};
+ghost use Rattle.guest_services.specs.Blocks.{FreedTo};
+
+use crate::blocks::{Block, first_fit, give, give_up, live_at};
+use mx_base::OutOfMemory;
+use std::alloc::Global;
+use std::marker::Model;
+
+const HEAP_START: u64 = 0x3000_0000;
+
+const HEAP_SIZE: u64 = 0x1000_0000;
+
+const MOST_BLOCKS: u32 = 65536;
+
+/// The heap of a guest, of which up to 65,536 blocks may live. It is seen as its free ranges and its live blocks, by address.
+#[derive(Drop)]
+pub struct Heap {
+    blocks: Vec<Block>,
+    live: u32,
+}
+
+impl Model for Heap {
+    ghost use Rattle.std.specs.Prelude.{◌≤◌, vec_capacity};
+    ghost use Rattle.mx_base.specs.Heap.{Heap as HeapLists};
+    ghost use Rattle.guest_services.specs.Blocks.{AreBlocks, heap_of, heap_code};
+
+    ghost Value = { HeapLists };
+
+    ghost coded = { heap_code };
+
+    ghost view = { λ h. heap_of h.blocks.items };
+
+    ghost invariant = { λ h. AreBlocks h.blocks.items h.live × (131073 ≤ vec_capacity h.blocks) };
+}
+
+impl Heap {
+    /// A heap of which all is free. It takes all its memory at once.
+    pub fn make(alloc: Global) -> Result<Heap, OutOfMemory>
+        ensures { IfOk result (λ h. h ≡ whole_heap) }
+    {
+        let mut blocks = Vec::with_capacity(alloc, 131073)?;
+        let whole = Block {
+            live: false,
+            at: HEAP_START,
+            size: HEAP_SIZE,
+        };
+        blocks.push(whole)?;
+        Ok(Heap { blocks, live: 0 })
+    }
+
+    /// The address of a new block of `n` bytes, rounded up to a multiple of 16, from the front of the first free range that
+    /// holds them; 0 where `n` is 0, no free range holds them, or as many blocks live as may.
+    pub fn alloc(&mut self, n: u64) -> u64
+        ensures { (result, self.new) ≡ allocated self.old n }
+    {
+        if n == 0 || self.live >= MOST_BLOCKS || n > HEAP_SIZE {
+            return 0;
+        }
+        let size = (n + 15) / 16 * 16;
+        let i = first_fit(&self.blocks, size);
+        if i >= self.blocks.as_slice().len() {
+            return 0;
+        }
+        let at = self.blocks[i].at;
+        give(&mut self.blocks, i, size);
+        self.live += 1;
+        at
+    }
+
+    /// Frees the live block that starts at an address. False where none does, and then nothing changes.
+    pub fn free(&mut self, a: u64) -> bool
+        ensures { FreedTo (freed self.old a) self.old self.new result }
+    {
+        let i = live_at(&self.blocks, a);
+        if i >= self.blocks.as_slice().len() {
+            return false;
+        }
+        give_up(&mut self.blocks, i, a);
+        self.live -= 1;
+        true
+    }
+}
+
+#[cfg(test)]
+mod tests {
+    use super::*;
+    use std::test::Fail;
+
+    #[test]
+    fn blocks_come_from_the_front_and_join_again(rt: HostRuntime) -> Result<(), Fail> {
+        let mut heap = Heap::make(rt.alloc())?;
+        let firsts = [
+            (0, 0),
+            (1, 0x3000_0000),
+            (17, 0x3000_0010),
+            (16, 0x3000_0030),
+            (u64::MAX, 0),
+            (0x0fff_ffc1, 0),
+        ];
+        for (size, want) in firsts {
+            assert_eq!(rt; heap.alloc(size), want, "{size}");
+        }
+        let frees = [
+            (0x3000_0010, true),
+            (0x3000_0010, false),
+            (0x3000_0018, false),
+            (0x3000_0008, false),
+            (0, false),
+        ];
+        for (a, want) in frees {
+            assert_eq!(rt; heap.free(a), want, "{a}");
+        }
+        assert_eq!(rt; heap.alloc(33), 0x3000_0040);
+        assert_eq!(rt; heap.alloc(32), 0x3000_0010);
+        assert!(rt; heap.free(0x3000_0000) && heap.free(0x3000_0030) && heap.free(0x3000_0010));
+        assert_eq!(rt; heap.alloc(65), 0x3000_0070);
+        assert_eq!(rt; heap.alloc(64), 0x3000_0000);
+        Ok(())
+    }
+}
