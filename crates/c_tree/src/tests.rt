@@ -57,26 +57,37 @@ fn looped(alloc: Global, times: u32) -> Result<Stmt, AllocError> {
     Ok(inner)
 }
 
-/// A source of one function with this body.
-fn source(alloc: Global, body: Stmt) -> Result<Tree, AllocError> {
-    let mut items = Items::new(alloc);
-    items.push(Item {
+fn fun(decl: Decl, params: Items<Decl>, body: Stmt) -> Item {
+    Item {
         place: HERE,
-        kind: ItemKind::Fun(decl(alloc)?, Items::new(alloc), Some(body)),
-    })?;
+        kind: ItemKind::Fun(decl, params, Some(body)),
+    }
+}
+
+/// A source of one item.
+fn source(alloc: Global, item: Item) -> Result<Tree, AllocError> {
+    let mut items = Items::new(alloc);
+    items.push(item)?;
     Ok(Tree { items })
+}
+
+/// So many statements of 201 nodes.
+fn negations(alloc: Global, times: u32) -> Result<Items<Stmt>, AllocError> {
+    let mut stmts = Items::new(alloc);
+    for _ in 0..times {
+        let value = negated(alloc, 199)?;
+        stmts.push(stmt(StmtKind::Value(Some(value))))?;
+    }
+    Ok(stmts)
 }
 
 #[test]
 fn large_tree_is_counted_and_dropped(rt: HostRuntime) -> Result<(), Fail> {
     let alloc = rt.alloc();
-    let mut stmts = Items::new(alloc);
-    for _ in 0..163 {
-        stmts.push(stmt(StmtKind::Value(Some(negated(alloc, 199)?))))?;
-    }
-    stmts.push(stmt(StmtKind::Break))?;
-    stmts.push(stmt(StmtKind::Return(None)))?;
-    let tree = source(alloc, stmt(StmtKind::Block(stmts)))?;
+    let mut counted = decl(alloc)?;
+    counted.counts.push(negated(alloc, 1)?)?;
+    let body = stmt(StmtKind::Block(negations(alloc, 163)?));
+    let tree = source(alloc, fun(counted, Items::new(alloc), body))?;
     assert_eq!(rt; nodes(&tree), 32_768);
     Ok(())
 }
@@ -84,7 +95,9 @@ fn large_tree_is_counted_and_dropped(rt: HostRuntime) -> Result<(), Fail> {
 #[test]
 fn deep_tree_is_counted_and_dropped(rt: HostRuntime) -> Result<(), Fail> {
     let alloc = rt.alloc();
-    let tree = source(alloc, looped(alloc, 200)?)?;
+    let named = decl(alloc)?;
+    let body = looped(alloc, 200)?;
+    let tree = source(alloc, fun(named, Items::new(alloc), body))?;
     assert_eq!(rt; nodes(&tree), 403);
     Ok(())
 }

@@ -1,22 +1,28 @@
-//! Lets scripts reach the libraries: `decode` and `recode` read lines of hexadecimal bytes, `speed` repeats one call.
+//! Lets scripts reach the libraries: `decode` and `recode` read lines of hexadecimal bytes, `tokens` reads a file, `speed`
+//! repeats one call.
 //!
 //! `decode` prints `LENGTH FORM`, `Undefined` or `Short N` for each line, and `recode` the bytes of the spelling of what it
-//! read, or the same refusals. `speed decode N` and `speed encode N` do so many calls and print the count.
+//! read, or the same refusals. `tokens FILE` prints the number of the file's tokens, or `KIND LINE:COL`. `speed decode N`
+//! and `speed encode N` do so many calls and print the count.
 #![tactic(auto)]
 
+mod files;
 mod instructions;
 mod speed;
 
+use files::tokens_line;
 use instructions::{decode_line, recode_line};
 use speed::{decode_often, encode_often};
 use std::alloc::Global;
 use std::process::ExitCode;
+use std::rt::Files;
 use std::{env, io};
 
 fn main(rt: HostRuntime) -> io::Result<ExitCode> {
     let args: Vec<String> = env::args(&rt)?.skip(1).collect(rt.alloc())?;
     let done = match args.as_slice() {
         [command] => each_line(&rt, command.as_str())?,
+        [command, path] => of_file(&rt, command.as_str(), path.as_str())?,
         [command, call, count] => repeat(&rt, command.as_str(), call.as_str(), count.as_str())?,
         _ => false,
     };
@@ -39,6 +45,20 @@ fn each_line<R: Input + Print + Alloc<A = Global>>(rt: &R, command: &str) -> io:
         };
         println!(rt; "{text}")?;
     }
+    Ok(true)
+}
+
+/// Does a command on a file, and says whether there is such a command.
+fn of_file<R: Files + Print + Alloc<A = Global>>(
+    rt: &R,
+    command: &str,
+    path: &str,
+) -> io::Result<bool> {
+    let line = match command {
+        "tokens" => tokens_line(rt, path)?,
+        _ => return Ok(false),
+    };
+    println!(rt; "{line}")?;
     Ok(true)
 }
 
