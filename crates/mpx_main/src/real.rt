@@ -15,7 +15,11 @@ pub struct RealFiles<'a, R> {
 }
 
 impl<'a, R: rt::Files> RealFiles<'a, R> {
-    pub fn new(rt: &'a R) -> Self {
+    /// The files of the system; no call has failed yet.
+    pub fn new(rt: &'a R) -> Self
+        ensures read_faults { result.read_faults ≡ 0 }
+        ensures write_faults { result.write_faults ≡ 0 }
+    {
         RealFiles {
             rt,
             read_faults: 0,
@@ -92,7 +96,10 @@ pub struct RealSource<R> {
 }
 
 impl<R: Read> RealSource<R> {
-    pub fn new(reader: R) -> Self {
+    /// A source over this reader; no call has failed yet.
+    pub fn new(reader: R) -> Self
+        ensures { result.faults ≡ 0 }
+    {
         RealSource { reader, faults: 0 }
     }
 }
@@ -125,7 +132,10 @@ pub struct RealSink<W> {
 }
 
 impl<W: Write> RealSink<W> {
-    pub fn new(writer: W) -> Self {
+    /// A sink over this writer; no call has failed yet.
+    pub fn new(writer: W) -> Self
+        ensures { result.faults ≡ 0 }
+    {
         RealSink { writer, faults: 0 }
     }
 }

@@ -44,6 +44,7 @@ pub fn run_words<F: Files, I: Source, O: Sink, E: Sink>(
     ensures contents { (n : List ℕ) → F.contents files.new n ≡ F.contents files.old n }
     ensures write_faults { F.write_faults files.new ≡ F.write_faults files.old }
     ensures left { I.left _input.new ≡ I.left _input.old }
+    ensures input_faults { I.faults _input.new ≡ I.faults _input.old }
 {
     match run_file(words) {
         None => report(err, "", End::WordsRefused),

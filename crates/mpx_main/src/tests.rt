@@ -4,6 +4,7 @@ use crate::run::run_words;
 use c_reader::read_early;
 use mx_base::{Failed, Files, MemFiles, MemSink, MemSource, Sink, Source};
 use std::alloc::Global;
+use std::path::PathBuf;
 use std::test::Fail;
 use std::{env, fs};
 use x86_core::{EarlyStop, run_early};
@@ -244,11 +245,17 @@ fn runs_the_bytes(rt: HostRuntime) -> Result<(), Fail> {
     Ok(())
 }
 
+/// A file of this test alone.
+fn scratch_file(rt: &HostRuntime, name: &str) -> Result<PathBuf, Fail> {
+    let mut path = env::temp_dir(rt)?;
+    path.push(name)?;
+    Ok(path)
+}
+
 #[test]
-fn real_files_and_streams(rt: HostRuntime) -> Result<(), Fail> {
-    let mut folder = env::temp_dir(&rt)?;
-    folder.push("mpxc-adapter-test")?;
-    let path = folder.as_str();
+fn real_files(rt: HostRuntime) -> Result<(), Fail> {
+    let scratch = scratch_file(&rt, "mpxc-files-test")?;
+    let path = scratch.as_str();
     let mut files = RealFiles::new(&rt);
     let mut buf = [0u8; 4];
     files.write_all(path, b"abcdef")?;
@@ -258,17 +265,36 @@ fn real_files_and_streams(rt: HostRuntime) -> Result<(), Fail> {
     assert_eq!(rt; files.read_faults(), 0);
     assert_eq!(rt; files.write_all("no/such/file.c", b""), Err(Failed));
     assert_eq!(rt; files.write_faults(), 1);
+    fs::remove_file(&rt, path)?;
+    Ok(())
+}
 
+#[test]
+fn real_source(rt: HostRuntime) -> Result<(), Fail> {
+    let scratch = scratch_file(&rt, "mpxc-source-test")?;
+    let path = scratch.as_str();
+    fs::write(&rt, path, b"abcdef")?;
     let mut source = RealSource::new(fs::open(&rt, path)?);
+    let mut buf = [0u8; 4];
     assert_eq!(rt; source.take(&mut buf), Ok(4));
     assert_eq!(rt; buf, [b'a', b'b', b'c', b'd']);
+    assert_eq!(rt; source.take(&mut buf), Ok(2));
+    assert_eq!(rt; source.take(&mut buf), Ok(0));
     assert_eq!(rt; source.faults(), 0);
+    fs::remove_file(&rt, path)?;
+    Ok(())
+}
 
+#[test]
+fn real_sink(rt: HostRuntime) -> Result<(), Fail> {
+    let scratch = scratch_file(&rt, "mpxc-sink-test")?;
+    let path = scratch.as_str();
     let mut sink = RealSink::new(fs::create(&rt, path)?);
     assert_eq!(rt; sink.put(b"xy"), Ok(2));
+    assert_eq!(rt; sink.put(b""), Ok(0));
     assert_eq!(rt; sink.faults(), 0);
-    assert_eq!(rt; files.read_at(path, 0, &mut buf), Ok(Some(2)));
-    assert_eq!(rt; buf, [b'x', b'y', b'c', b'd']);
+    let held = fs::read(&rt, path)?;
+    assert_eq!(rt; held.as_slice(), b"xy".as_slice());
     fs::remove_file(&rt, path)?;
     Ok(())
 }

@@ -10,7 +10,7 @@ use Rattle.mx_base.specs.Regions.{is_readable, is_writable, is_executable, is_se
 use Rattle.mx_base.specs.Memory.{no_bytes, number_at, with_number, first_refused, first_refused_around}
 use Rattle.mx_base.specs.Access.{refusal, Strays, Misses}
 use Rattle.mx_base.specs.BoundsStore.{touched_with, keep_bounds, load_bounds, bounds_for, empty_store}
-use Rattle.mx_base.specs.Walk.{directory_entry_at, table_entry_at, next_entry}
+use Rattle.mx_base.specs.Walk.{directory_entry_at, table_entry_at, next_entry, bounds_in, entry_for, with_next_table}
 use Rattle.mx_base.specs.Heap.{Range, Heap, whole_heap, rounded, allocated, freed, heap_after, Allocs, Frees}
 use Rattle.mx_base.specs.World.{World, world_at_start, number_written, pointer_written, pointer_read}
 use Rattle.mx_base.specs.Services.{Guest, guest_with, Served, Answers, Exits, served, service_of}
@@ -181,6 +181,23 @@ walks = (refl, refl, refl, refl)
 tables_made : (next_entry 0 ≡ 0x5000_0000_0001) × (next_entry 1 ≡ 0x5000_0040_0001) × (next_entry 1023 ≡ 0x5000_ffc0_0001)
 unfolding next_entry
 tables_made = (refl, refl, refl)
+
+-- 1,024 tables are made, each named in its directory entry, and no more
+abbrev entry_then : Option (ℕ → ℕ) → Option ℕ
+unfolding number_at
+entry_then None = None
+entry_then (Some m) = Some (number_at 8 m 0x4000_0000_1800)
+
+last_table : (entry_then (with_next_table no_bytes 0x4000_0000_1800 1023) ≡ Some 0x5000_ffc0_0001) × (entry_then (with_next_table no_bytes 0x4000_0000_1800 1024) ≡ None)
+unfolding with_next_table with_number next_entry entry_then
+last_table = (refl, refl)
+
+-- a table entry's bounds, for the value that it was stored for and for another; an untouched entry gives full bounds
+stored_bounds : (bounds_in 0x2000_0000 (entry_for 0x2000_0000 record { lb = 0x2000_0000; ub = 0x2000_0003 }) ≡ record { lb = 0x2000_0000; ub = 0x2000_0003 })
+    × (bounds_in 0x2000_0001 (entry_for 0x2000_0000 record { lb = 0x2000_0000; ub = 0x2000_0003 }) ≡ full_bounds)
+    × (bounds_in 0 record { lb = 0; held = 0; value = 0 } ≡ full_bounds)
+unfolding bounds_in
+stored_bounds = (refl, refl, refl)
 
 -- where a table is wanting, the pointer's bytes are written all the same, and nothing is kept
 abbrev full_world : World

@@ -18,7 +18,7 @@ full_bounds = record { lb = 0; ub = 0xffff_ffff_ffff_ffff }
 abbrev pub met : Bounds → Bounds → Bounds
 met a b = record { lb = max a.lb b.lb; ub = min a.ub b.ub }
 
--- the last byte of s bytes at p
+-- the last byte of s bytes at p, where s is at least 1
 unfoldable pub last_byte : ℕ → ℕ → ℕ
 last_byte p s = (p + s - 1) % addresses
 

@@ -46,12 +46,13 @@ abbrev pub placed : Range → List Range → List Range
 placed r [] = r ∷ []
 placed r (x ∷ xs) = if nat_lt r.from x.from then r ∷ x ∷ xs else x ∷ placed r xs
 
--- the answer to a call for n bytes, and the heap then: the address of a block, or 0 where n is 0, no free range fits, or as
--- many blocks live as may
+-- a block of n bytes from the front of a free range, and the heap then; 0 where there is no range
 abbrev pub given_block : Heap → ℕ → Option Range → ℕ × Heap
 given_block h n None = (0, h)
 given_block h n (Some f) = (f.from, record { free = taken_from h.free n; live = placed record { from = f.from; size = n } h.live })
 
+-- the answer to a call for n bytes, and the heap then: the address of a block, or 0 where n is 0, no free range fits, or as
+-- many blocks live as may
 unfoldable pub allocated : Heap → ℕ → ℕ × Heap
 allocated h n = if n == 0 || nat_le most_blocks (length h.live) then (0, h) else given_block h (rounded n) (first_fit h.free (rounded n))
 

@@ -18,6 +18,7 @@ no_bytes = λ a. 0
 abbrev pub with_byte : Bytes → ℕ → ℕ → Bytes
 with_byte m a b = λ x. if x == a then b else m x
 
+-- The four that follow do not come round at the last address: they are asked only of bytes that lie in regions, and no region has it.
 -- the number of n bytes from a on, the lowest byte first
 unfoldable pub number_at : ℕ → Bytes → ℕ → ℕ
 number_at zero m a = 0

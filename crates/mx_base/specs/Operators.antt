@@ -57,7 +57,7 @@ whole BitAnd k a b = Some (pos (bit_and (word_of a) (word_of b)))
 whole BitXor k a b = Some (pos (bit_xor (word_of a) (word_of b)))
 whole BitOr k a b = Some (pos (bit_or (word_of a) (word_of b)))
 
--- an operator on two numbers of a type
+-- an operator on two numbers of a type; the right operand of a shift may have any type, and k is that of the left one
 unfoldable pub arithmetic : Arithmetic → IntKind → ℤ → ℤ → Option ℤ
 arithmetic op k a b = option_map (wrapped k) (whole op k a b)
 

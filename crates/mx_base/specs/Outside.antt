@@ -45,7 +45,7 @@ KeepsWhereTold old (Holds bytes) = old ≡ Holds bytes
 
 -- what `take` answers, with the bytes left before and after it and the buffer after it
 abbrev pub Takes : {E : Type 0} → Option (List ℕ) → Option (List ℕ) → List ℕ → Result ℕ E → Type 0
-Takes None new buf (Ok n) = n ≤ length buf
+Takes None new buf (Ok n) = (n ≤ length buf) × (new ≡ None)
 Takes (Some bytes) new buf (Ok n) = (n ≤ length buf) × Gives bytes n buf × (new ≡ Some (drop n bytes))
 Takes old new buf (Err e) = new ≡ old
 

@@ -65,7 +65,8 @@ free_answer g None = Answers (minus 1) g
 free_answer g (Some h) = Answers 0 record { heap = h; input = g.input; out = g.out }
 
 -- what a service answers and leaves. Its words are those of rdi, rsi and rdx; `refused` judges the reading of some bytes, from
--- an address on, by the caller's rules: all of a write's bytes at once and before any is written, and none where there is none.
+-- an address on (first the address, then how many), by the caller's rules: all of a write's bytes at once and before any is
+-- written, and none where there is none.
 unfoldable pub served : {R : Type 0} → Bytes → (ℕ → ℕ → Option R) → Service → (rdi rsi rdx : ℕ) → Guest → Served R
 served m refused Write rdi rsi rdx g = if not (rdi == 1) then Answers (minus 9) g
     else if rdx == 0 then Answers 0 g else written m rsi rdx g (refused rsi rdx)

@@ -1,7 +1,9 @@
 -- The walk from an address to the place of its bounds (Intel SDM, volume 1, bound directory and bound tables).
-use Rattle.std.specs.Prelude.{ℕ, ◌+◌, ◌*◌, ◌/◌, ◌%◌, nat_lt, Bool, ◌==◌, if◌then◌else◌}
+use Rattle.std.specs.Prelude.{ℕ, ◌+◌, ◌*◌, ◌/◌, ◌%◌, nat_lt, Bool, ◌==◌, if◌then◌else◌, Option, None, Some}
 use Rattle.mx_base.specs.Regions.{tables}
-use Rattle.mx_base.specs.Bounds.{addresses}
+use Rattle.mx_base.specs.declared.limits.Bounds.{Bounds}
+use Rattle.mx_base.specs.Bounds.{addresses, complement, full_bounds}
+use Rattle.mx_base.specs.BoundsStore.{most_tables}
 use Rattle.mx_base.specs.Memory.{Bytes, number_at, with_number}
 
 -- the directory's first address by the configuration register: its bits 63 to 12
@@ -50,6 +52,14 @@ entry_in m at = record { lb = number_at 8 m at; held = number_at 8 m (at + 8); v
 unfoldable pub with_entry : Bytes → ℕ → TableEntry → Bytes
 with_entry m at e = with_number 8 (with_number 8 (with_number 8 m at e.lb) (at + 8) e.held) (at + 16) e.value
 
+-- the bounds that a table entry gives to a pointer of this value: its own if it was stored for that value, and else full
+unfoldable pub bounds_in : ℕ → TableEntry → Bounds
+bounds_in value e = if e.value == value then record { lb = e.lb; ub = complement e.held } else full_bounds
+
+-- the table entry that stores bounds for a pointer of this value
+abbrev pub entry_for : ℕ → Bounds → TableEntry
+entry_for value b = record { lb = b.lb; held = complement b.ub; value = value }
+
 -- how many bytes of a table entry are read or written
 abbrev pub entry_size : ℕ
 entry_size = 24
@@ -63,6 +73,10 @@ table_size = 0x40_0000
 -- the directory entry of the next table, once this many were made: its address with the lowest bit set
 unfoldable pub next_entry : ℕ → ℕ
 next_entry made = tables.from + table_size * made + 1
+
+-- the bytes once the runtime has put the next table into a directory entry; None where as many tables were made as may be
+unfoldable pub with_next_table : Bytes → ℕ → ℕ → Option Bytes
+with_next_table m entry_at made = if nat_lt made most_tables then Some (with_number 8 m entry_at (next_entry made)) else None
 
 -- the status register after a bounds check that failed, and after an invalid directory entry
 abbrev pub violation_status : ℕ

@@ -1,4 +1,4 @@
--- The world that C, legacy code and the machine share, and beside it what decides nothing.
+-- The world that C and legacy code share, and beside it what decides nothing.
 use Rattle.std.specs.Prelude.{ℕ, Bool, true, false, Option, None, Some, Result, Ok, Err, List, [], ◌∷◌, ◌++◌}
 use Rattle.mx_base.specs.declared.limits.Bounds.{Bounds}
 use Rattle.mx_base.specs.Regions.{data_stack, legacy_stack, region_end}
@@ -18,14 +18,14 @@ pub record FarRegisters : Type 0 where
 abbrev pub far_at_start : FarRegisters
 far_at_start = record { rbx = 0; rbp = 0; r12 = 0; r13 = 0; r14 = 0; r15 = 0 }
 
--- an access of C that was done: whether it wrote, its first address, and how many bytes it had
+-- an access that was done, of C or of the call of a legacy function: whether it wrote, its first address, and how many bytes it had
 pub record Access : Type 0 where
   pub write : Bool
   pub at : ℕ
   pub size : ℕ
 
 -- the bytes that are not sealed, the bounds beside them, heap, input and output, the turns left, the far registers, the two stack
--- pointers, and the accesses of C so far
+-- pointers, and the accesses of C so far. How deep functions are nested is no part of it: each meaning of calls knows its depth.
 pub record World : Type 0 where
   pub bytes : Bytes
   pub store : BoundsStore
@@ -114,7 +114,8 @@ pub record Traced : Type 0 where
   pub causes : ℕ
 
 -- the accesses, the bounds made and the causes that happened, each in order; the root of what is kept for each granule; the
--- pages written and the granules loaded or kept; and the deepest that functions were nested
+-- pages written and the granules loaded or kept, each once, in the order of the first time; and the deepest that functions were
+-- nested. The accesses of the trace are those of the world, in the same order.
 pub record Log : Type 0 where
   pub trace : List Traced
   pub made : List Bounds
@@ -124,5 +125,6 @@ pub record Log : Type 0 where
   pub granules : List ℕ
   pub deepest : ℕ
 
+-- before anything was made; the bounds of the globals and literals are the first that are
 abbrev pub empty_log : Log
 empty_log = record { trace = []; made = []; causes = []; roots = λ g. None; pages = []; granules = []; deepest = 0 }

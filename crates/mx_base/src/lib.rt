@@ -1,4 +1,6 @@
-//! The words that every layer speaks: places, kinds of integers, and the outside with its counts of faults.
+//! The words that every layer speaks: numbers of fixed width, pointer bounds, the address space with its regions, the
+//! bounds store, the heap and the services, the walk through directory and tables, stops, and the outside with its counts
+//! of faults. The definitions stand in `specs/`, one module a notion; `laws` has what is proved of them.
 #![tactic(auto)]
 
 mod calls;

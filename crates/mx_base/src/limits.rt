@@ -19,7 +19,7 @@ pub fn full() -> Bounds
     }
 }
 
-/// Bounds with the addresses of both.
+/// Bounds with the addresses inside both.
 pub fn meet(a: Bounds, b: Bounds) -> Bounds
     ensures { result ≡ met a b }
 {

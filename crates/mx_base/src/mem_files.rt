@@ -12,9 +12,10 @@ use super::shelf::Shelf;
 use std::alloc::Global;
 use std::marker::Model;
 
-/// Files over memory, which tell their contents, but that a write that failed leaves its name untold. They fail exactly
-/// at the calls of `read_at` and `write_all` that they were made to fail at, counted together from 0, and at a write
-/// past the room: a new name where as many are held as may be, a name over 255 bytes, or too many bytes.
+/// Files over memory, which tell their contents, but that a write that failed leaves its name untold; if that name is not
+/// held, then from then on every name that is not held is untold. They fail exactly at the calls of `read_at` and
+/// `write_all` that they were made to fail at, counted together from 0, and at a write past the room: a new name where as
+/// many are held as may be, a name over 255 bytes, or too many bytes.
 #[derive(Drop)]
 pub struct MemFiles {
     shelf: Shelf,

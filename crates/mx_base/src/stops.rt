@@ -14,17 +14,19 @@ pub enum Stop {
     Exit(u8),
     /// A bounds check failed.
     Bounds(Breach),
-    /// An access or a fetch of this address, where no region allows it.
+    /// An access or a fetch of this address, where no region allows it; or BNDLDX or BNDSTX asked for the bounds of a pointer at
+    /// this address, which is 2^47 or more.
     Unmapped(u64),
     /// A division by zero, or one whose quotient does not fit.
     Divide,
-    /// The bytes at this address are no instruction.
+    /// The bytes at this address are no instruction, or are `ud2`.
     Undefined(u64),
-    /// Too many C functions were entered, or their data frames are too large.
+    /// Too many C functions were entered, or their data frames are too large; or code asked for this stop.
     StackOver,
     /// An event was to take a turn, and none was left.
     OutOfTurns,
-    /// Legacy code touched this sealed address, or went to it.
+    /// This sealed address was touched by legacy code, by C within its bounds, or by the write of the return address at a call of
+    /// legacy code; or legacy code, or the return from C to it, went to this address of instrumented code.
     Strayed(u64),
     /// One bounds table more was needed than there may be.
     NoTable,
