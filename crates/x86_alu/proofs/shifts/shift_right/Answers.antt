@@ -1,0 +1,19 @@
+use Rattle.std.proofs.Common.{◌∙◌}
+use Rattle.x86_alu.specs.Alu.{flags_in}
+use Rattle.x86_alu.proofs.Shifting.{shr-result, shr-kept, shr-flags}
+use Rattle.x86_alu.proofs.shifts.shift_right.Goals as goal
+
+pub returns-then-c-eq0-clause-value : goal.returns-then-c-eq0-clause-value
+returns-then-c-eq0-clause-value c = shr-result c.args.w c.args.a c.args.b c.count-c.result c.count-c.ensures.value
+
+pub returns-then-c-eq0-clause-flags : goal.returns-then-c-eq0-clause-flags
+returns-then-c-eq0-clause-flags c = shr-kept c.args.w c.args.a c.args.b c.count-c.result (flags_in c.args.before) c.count-c.ensures.value c.if-c-eq0.true
+
+pub returns-clause-value : goal.returns-clause-value
+returns-clause-value c = shr-result c.args.w c.args.a c.args.b c.count-c.result c.count-c.ensures.value
+
+pub returns-clause-flags : goal.returns-clause-flags
+returns-clause-flags c =
+    c.flags.ensures
+    ∙ shr-flags c.args.w c.args.a c.args.b c.count-c.result _ c.bit-out.result c.right_overflow.result (flags_in c.args.before) c.requires.width c.count-c.ensures.value c.if-c-eq0.false
+    (returns-clause-value c) c.bit-out.ensures c.right_overflow.ensures
