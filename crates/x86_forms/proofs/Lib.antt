@@ -6,4 +6,7 @@ pub mod ShortCode
 pub mod TableAccesses
 pub mod TableAlike
 pub mod TableKeeps
+pub mod WatchDoors
+pub mod WatchFirst
+pub mod WatchOperand
 pub mod Writable

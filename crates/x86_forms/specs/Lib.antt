@@ -13,3 +13,5 @@ pub mod Spelling
 pub mod Table
 pub mod TableLaws
 pub mod Validity
+pub mod Watch
+pub mod WatchLaws

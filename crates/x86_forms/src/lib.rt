@@ -12,6 +12,7 @@ mod layout;
 mod spans;
 mod table_laws;
 mod validity;
+mod watch_laws;
 
 pub use accesses::reach;
 pub use early::{
@@ -26,3 +27,7 @@ pub use table_laws::{
     rows_make_their_accesses,
 };
 pub use validity::valid;
+pub use watch_laws::{
+    accesses_are_at_the_operand, legacy_control_enters_by_its_doors,
+    watched_accesses_reach_no_sealed_byte,
+};
