@@ -1,3 +1,4 @@
+pub mod Conditions
 mod EarlyBack
 pub mod EarlyFound
 pub mod EarlyRows

@@ -1,5 +1,6 @@
 pub mod Accesses
 pub mod Arithmetic
+pub mod ConditionLaws
 pub mod EarlyCode
 pub mod EarlyEffects
 pub mod EarlyReading

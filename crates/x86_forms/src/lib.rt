@@ -5,6 +5,7 @@
 #![tactic(auto)]
 
 mod accesses;
+mod condition_laws;
 mod early;
 mod instr;
 mod laws;
@@ -15,6 +16,7 @@ mod validity;
 mod watch_laws;
 
 pub use accesses::reach;
+pub use condition_laws::conditions_compare;
 pub use early::{
     EarlyInstr, EarlyMem, early_code_is_a_row_of_instructions, early_instructions_have_one_spelling,
 };
