@@ -1,4 +1,8 @@
 pub mod Conditions
+pub mod DoesOfBounds
+pub mod DoesOfBranches
+pub mod DoesOfMoves
+pub mod DoesOfNumbers
 mod EarlyBack
 pub mod EarlyFound
 pub mod EarlyRows

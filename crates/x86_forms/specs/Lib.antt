@@ -5,6 +5,11 @@ pub mod EarlyCode
 pub mod EarlyEffects
 pub mod EarlyReading
 pub mod EarlySpelling
+pub mod Examples
+pub mod ExamplesOfBounds
+pub mod ExamplesOfBranches
+pub mod ExamplesOfMoves
+pub mod ExamplesOfNumbers
 pub mod Fits
 pub mod Layout
 pub mod Processor

@@ -1,5 +1,5 @@
 -- What an instruction does, as requests to a memory and a store of bounds: each row of the instruction table is such a program.
-use Rattle.std.specs.Prelude.{ℕ, ◌+◌, Bool, true, false, Result, Ok, Err, List, [], ◌∷◌}
+use Rattle.std.specs.Prelude.{ℕ, Bool, Result, Ok, Err}
 use Rattle.mx_base.specs.declared.limits.Bounds.{Bounds}
 use Rattle.x86_forms.specs.Processor.{Processor}
 

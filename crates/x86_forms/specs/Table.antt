@@ -1,6 +1,6 @@
 -- The instruction table: what each instruction does, as a program of requests over the processor before it (Intel SDM, volume 2, the page of each instruction).
 -- Reads come first, then writes and pushes, and then the target. A row that fails leaves the processor as it was, but for BNDSTATUS.
-use Rattle.std.specs.Prelude.{ℕ, ◌+◌, ◌-◌, ◌*◌, ◌/◌, ◌%◌, ◌^◌, Bool, true, false, nat_lt, nat_eq, ◌==◌, ◌||◌, if◌then◌else◌, Option, None, Some, ℤ}
+use Rattle.std.specs.Prelude.{ℕ, ◌+◌, ◌-◌, ◌*◌, ◌/◌, ◌^◌, Bool, true, false, nat_lt, ◌==◌, ◌||◌, if◌then◌else◌, Option, None, Some, ℤ}
 use Rattle.std.specs.Int.{cast_unsigned, w64}
 use Rattle.mx_base.specs.declared.limits.Bounds.{Bounds}
 use Rattle.mx_base.specs.Bounds.{full_bounds, complement}
@@ -11,7 +11,7 @@ use Rattle.x86_forms.specs.declared.instr.Rm.TheVariants.{Reg as InReg, Mem as I
 use Rattle.x86_forms.specs.declared.instr.Instr.TheVariants.{MovTo, MovFrom, MovMemImm, MovImm, Movsxd, Movzx, Movsx, Lea, AluTo, AluFrom, AluImm, Test as TestRm, Imul as ImulRm, One, Wide, ShiftCl, ShiftImm, Set, Push, Pop, CallRel, JmpRel, CallRm, JmpRm, Jcc, Ret, Syscall, Ud2, Nop, Bndmk, Bndcl, Bndcu, Bndcn, BndmovTo, BndmovFrom, Bndldx, Bndstx}
 use Rattle.x86_forms.specs.Arithmetic.{Flags, no_flags, low, signed, bits_of, is_negative, Operation, Add, Or, And, Sub, Xor, Cmp, Test, Imul, Not, Neg, Shl, Shr, Sar, result_of, flags_after, writes_result, divided, divided_signed, holds}
 use Rattle.x86_forms.specs.Processor.{Processor, rax, rcx, rdx, rsp, r11, with_reg, with_part, with_bounds, bytes_in, base_value, index_register, address, pointer_address, below_stack, above_stack, branch_target}
-use Rattle.x86_forms.specs.Requests.{Program, Ends, Fails, Reads, Writes, Loads, Keeps, Fault, Divides, Undefines, Violates}
+use Rattle.x86_forms.specs.Requests.{Program, Ends, Fails, Reads, Writes, Loads, Keeps, Divides, Undefines, Violates}
 
 -- ---- the processor after small steps
 

@@ -7,6 +7,7 @@
 mod accesses;
 mod condition_laws;
 mod early;
+mod examples;
 mod instr;
 mod laws;
 mod layout;
@@ -20,6 +21,7 @@ pub use condition_laws::conditions_compare;
 pub use early::{
     EarlyInstr, EarlyMem, early_code_is_a_row_of_instructions, early_instructions_have_one_spelling,
 };
+pub use examples::rows_do_as_the_manual_says;
 pub use instr::{Base, Instr, Mem, Reg, Rm};
 pub use laws::short_spellings;
 pub use layout::{Layout, Operands};
