@@ -1,4 +1,5 @@
--- Small examples of instructions: what stands before one, and what differs after it. All that an example doesn't name is as before.
+-- Small examples of instructions: what stands before one, and what differs after it. The rest of the processor is as before,
+-- and memory is looked at where an example names a place.
 use Rattle.std.specs.Prelude.{◌≡◌, ℕ, ◌+◌, ◌*◌, ◌==◌, Bool, true, false, if◌then◌else◌, Option, None, Some, Ok, List, [], ◌∷◌, ◌++◌, ℤ}
 use Rattle.std.specs.List.{flat_map}
 use Rattle.mx_base.specs.declared.limits.Bounds.{Bounds}

@@ -7,8 +7,9 @@ ghost use Rattle.x86_forms.specs.ExamplesOfNumbers.{examples_of_sums, examples_o
 ghost use Rattle.x86_forms.specs.ExamplesOfBranches.{examples_of_calls, examples_of_jumps};
 ghost use Rattle.x86_forms.specs.ExamplesOfBounds.{examples_of_checks, examples_of_bounds_moved};
 
-/// The instruction table does what the Intel manual's pages say, on more than a hundred small examples: each has what stands before
-/// the instruction and what differs after it, and all else is as before. Each form of instruction stands there at least twice.
+/// The instruction table does what the Intel manual's pages say, on more than a hundred small examples. Each has what stands
+/// before the instruction and what differs after it: the rest of the processor is as before, and memory is looked at where
+/// the example names a place. Each form of instruction stands there at least twice.
 pub fn rows_do_as_the_manual_says()
     ensures moves { AllByRecursion Does examples_of_mov }
     ensures extensions { AllByRecursion Does examples_of_extensions }
