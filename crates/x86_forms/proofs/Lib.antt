@@ -3,6 +3,7 @@ pub mod DoesOfBounds
 pub mod DoesOfBranches
 pub mod DoesOfMoves
 pub mod DoesOfNumbers
+pub mod DoesOfWatch
 mod EarlyBack
 pub mod EarlyFound
 pub mod EarlyRows

@@ -1,6 +1,6 @@
 -- The requests that a row makes to memory are the accesses of its instruction.
 use Rattle.std.proofs.Common.{◌≡◌, ℕ, ◌==◌, Bool, true, false, nat_lt, refl, arith, List, [], ◌++◌, subst}
-use Rattle.std.specs.Prelude.{Option, Some, None, if◌then◌else◌, ⊤}
+use Rattle.std.specs.Prelude.{Option, Some, None, if◌then◌else◌}
 use Rattle.std.proofs.lemmas.Bool.{cond_both}
 use Rattle.std.proofs.lemmas.Grind.{common_steps}
 use Rattle.mx_base.specs.declared.limits.Bounds.{Bounds}
@@ -9,11 +9,11 @@ use Rattle.x86_forms.specs.declared.instr.Rm.{Rm}
 use Rattle.x86_forms.specs.declared.instr.Rm.TheVariants.{Reg as InReg, Mem as InMem}
 use Rattle.x86_forms.specs.declared.instr.Instr.TheVariants.{MovTo, MovFrom, MovMemImm, MovImm, Movsxd, Movzx, Movsx, Lea, AluTo, AluFrom, AluImm, Test as TestRm, Imul as ImulRm, One, Wide, ShiftCl, ShiftImm, Set, Push, Pop, CallRel, JmpRel, CallRm, JmpRm, Jcc, Ret, Syscall, Ud2, Nop, Bndmk, Bndcl, Bndcu, Bndcn, BndmovTo, BndmovFrom, Bndldx, Bndstx}
 use Rattle.x86_forms.specs.declared.spans.Span.{Span}
-use Rattle.x86_forms.specs.Arithmetic.{Operation, Add, Or, And, Sub, Xor, Cmp, Test, Imul, Not, Neg, Shl, Shr, Sar, writes_result, result_of, divided, divided_signed}
+use Rattle.x86_forms.specs.Arithmetic.{Operation, Not, Neg, writes_result, result_of, divided, divided_signed}
 use Rattle.x86_forms.specs.Processor.{Processor, rax, rdx}
-use Rattle.x86_forms.specs.Requests.{Program, Ends, Fails, Reads, Writes, Loads, Keeps}
-use Rattle.x86_forms.specs.Accesses.{accesses, operand_reads, operand_writes, operand_changes, pushes}
-use Rattle.x86_forms.specs.Table.{row, value_then, written_to, operated, one_operand, quotient_kept, checked, bounds_then, pushed, alu_operation, shift_operation, reg_value, with_flags_after, at_next}
+use Rattle.x86_forms.specs.Requests.{Program}
+use Rattle.x86_forms.specs.Accesses.{accesses, operand_reads, operand_writes}
+use Rattle.x86_forms.specs.Table.{row, value_then, written_to, operated, one_operand, quotient_kept, checked, bounds_then, alu_operation, shift_operation, reg_value, with_flags_after}
 use Rattle.x86_forms.specs.TableLaws.{AsksFor}
 
 alu_writes : (op : ℕ) → writes_result (alu_operation op) ≡ nat_lt op 5

@@ -3,7 +3,7 @@ use Rattle.std.proofs.Common.{◌≡◌, ℕ, refl, subst}
 use Rattle.std.specs.Prelude.{Result, Ok, Err}
 use Rattle.mx_base.specs.declared.limits.Bounds.{Bounds}
 use Rattle.x86_forms.specs.Processor.{Processor}
-use Rattle.x86_forms.specs.Requests.{Program, Ends, Fails, Reads, Writes, Loads, Keeps, Store, Outcome, Done, Failed, Refused, run, refused_with, either_way}
+use Rattle.x86_forms.specs.Requests.{Program, Ends, Fails, Reads, Writes, Loads, Keeps, Store, Refused, run, refused_with, either_way}
 use Rattle.x86_forms.specs.TableLaws.{AnswerAlike, SameAnswer, SameBounds, SameOutcome}
 
 module _ {X Y O : Type 0} (R : X → Y → Type 0) (m : Store X O) (n : Store Y O) (h : AnswerAlike R m n) (c : Processor) where

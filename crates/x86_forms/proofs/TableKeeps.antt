@@ -9,8 +9,8 @@ use Rattle.x86_forms.specs.declared.instr.Rm.TheVariants.{Reg as InReg, Mem as I
 use Rattle.x86_forms.specs.declared.instr.Instr.TheVariants.{MovTo, MovFrom, MovMemImm, MovImm, Movsxd, Movzx, Movsx, Lea, AluTo, AluFrom, AluImm, Test as TestRm, Imul as ImulRm, One, Wide, ShiftCl, ShiftImm, Set, Push, Pop, CallRel, JmpRel, CallRm, JmpRm, Jcc, Ret, Syscall, Ud2, Nop, Bndmk, Bndcl, Bndcu, Bndcn, BndmovTo, BndmovFrom, Bndldx, Bndstx}
 use Rattle.x86_forms.specs.Arithmetic.{Operation, Test, Imul, Not, Neg, writes_result, result_of, divided, divided_signed}
 use Rattle.x86_forms.specs.Processor.{Processor, rax, rdx}
-use Rattle.x86_forms.specs.Requests.{Program, Ends, Fails, Reads, Writes, Loads, Keeps, Store, Outcome, Done, Failed, Refused, run, refused_with, either_way}
-use Rattle.x86_forms.specs.Table.{row, init_bounds, value_then, written_to, operated, one_operand, quotient_kept, checked, bounds_then, alu_operation, shift_operation, reg_value, with_flags_after, with_bnd, at_next}
+use Rattle.x86_forms.specs.Requests.{Program, Ends, Fails, Reads, Writes, Loads, Keeps, Store, Outcome, Refused, run, refused_with, either_way}
+use Rattle.x86_forms.specs.Table.{row, init_bounds, value_then, written_to, operated, one_operand, quotient_kept, checked, alu_operation, shift_operation, reg_value, with_flags_after, with_bnd, at_next}
 use Rattle.x86_forms.specs.TableLaws.{status_after, LeavesAll, widens, sets_register, BoundsAfter, WhereDone}
 
 -- a program that asks for nothing more

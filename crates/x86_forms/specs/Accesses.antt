@@ -1,5 +1,5 @@
 -- The data accesses of an instruction, in the order in which they are made: reads first, and then writes and pushes.
-use Rattle.std.specs.Prelude.{ℕ, ◌<◌, Bool, true, false, nat_lt, if◌then◌else◌, Option, None, Some, List, [], ◌∷◌, ◌++◌}
+use Rattle.std.specs.Prelude.{ℕ, Bool, true, false, nat_lt, if◌then◌else◌, None, Some, List, [], ◌∷◌, ◌++◌}
 use Rattle.x86_forms.specs.declared.instr.Instr.{Instr}
 use Rattle.x86_forms.specs.declared.instr.Rm.{Rm}
 use Rattle.x86_forms.specs.declared.instr.Rm.TheVariants.{Reg as InReg, Mem as InMem}

@@ -2,7 +2,6 @@
 -- A number of w bits is a number below 2^w; in two's complement it also stands for a signed one.
 use Rattle.std.specs.Prelude.{ℕ, ◌+◌, ◌-◌, ◌*◌, ◌/◌, ◌%◌, ◌^◌, Bool, true, false, nat_lt, nat_le, ◌==◌, ◌&&◌, ◌||◌, not, if◌then◌else◌, Option, None, Some, ℤ, pos, ◌+ℤ◌, ◌-ℤ◌, ◌*ℤ◌, int_lt, int_le, int_div, int_rem, bit_and, bit_or, bit_xor}
 use Rattle.std.specs.Int.{int_shr}
-use Rattle.std.specs.Ordering.{int_eq}
 use Rattle.mx_base.specs.Numbers.{residue, as_signed}
 
 -- carry, zero, sign and overflow

@@ -10,6 +10,7 @@ pub mod ExamplesOfBounds
 pub mod ExamplesOfBranches
 pub mod ExamplesOfMoves
 pub mod ExamplesOfNumbers
+pub mod ExamplesOfWatch
 pub mod Fits
 pub mod Layout
 pub mod Processor

@@ -6,8 +6,8 @@ use Rattle.x86_forms.specs.declared.instr.Instr.{Instr}
 use Rattle.x86_forms.specs.declared.instr.Instr.TheVariants.{CallRel, JmpRel, CallRm, JmpRm, Jcc, Ret, Bndmk, BndmovFrom, Bndldx}
 use Rattle.x86_forms.specs.declared.spans.Span.{Span}
 use Rattle.x86_forms.specs.Processor.{Processor}
-use Rattle.x86_forms.specs.Requests.{Program, Ends, Fails, Reads, Writes, Loads, Keeps, Fault, Divides, Undefines, Violates, Store, Outcome, Done, Failed, Refused, run, refused_with}
-use Rattle.x86_forms.specs.Table.{row, init_bounds}
+use Rattle.x86_forms.specs.Requests.{Program, Ends, Fails, Reads, Writes, Loads, Keeps, Fault, Divides, Undefines, Violates, Store, Outcome, Done, Failed, Refused, refused_with}
+use Rattle.x86_forms.specs.Table.{init_bounds}
 
 -- ---- accesses
 

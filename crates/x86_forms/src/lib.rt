@@ -32,6 +32,6 @@ pub use table_laws::{
 };
 pub use validity::valid;
 pub use watch_laws::{
-    accesses_are_at_the_operand, legacy_control_enters_by_its_doors,
+    accesses_are_at_the_operand, legacy_control_enters_by_its_doors, watch_judges_the_edges,
     watched_accesses_reach_no_sealed_byte,
 };

@@ -6,6 +6,7 @@ ghost use Rattle.x86_forms.specs.declared.instr.Instr.{Instr};
 ghost use Rattle.x86_forms.specs.declared.spans.Span.{Span};
 ghost use Rattle.x86_forms.specs.Accesses.{accesses};
 ghost use Rattle.x86_forms.specs.Watch.{access_strays, control_strays, is_watched, operand_of};
+ghost use Rattle.x86_forms.specs.ExamplesOfWatch.{IsJudged, IsControlJudged, examples_of_judged_accesses, examples_of_judged_control};
 ghost use Rattle.x86_forms.specs.WatchLaws.{HasNoSealedByte, IsAtOperand, StraysAt, StraysInto};
 
 /// The law that the watch looks at the operand of which an access is made: each data access of an instruction is at the
@@ -29,4 +30,11 @@ pub fn watched_accesses_reach_no_sealed_byte()
 pub fn legacy_control_enters_by_its_doors()
     ensures { (from to : ℕ) (call ret : Bool) (outers x : ℕ)
         → (control_strays from to call ret outers ≡ Some x) ↔ StraysInto from to call ret outers x }
+{}
+
+/// The watch on examples at its edges: accesses of legacy and of instrumented code that end before sealed bytes, reach into
+/// them, or are none of C's, and control to and beside the landing, outer entries and the ends of instrumented code.
+pub fn watch_judges_the_edges()
+    ensures accesses { AllByRecursion IsJudged examples_of_judged_accesses }
+    ensures control { AllByRecursion IsControlJudged examples_of_judged_control }
 {}
