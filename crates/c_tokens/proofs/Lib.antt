@@ -1,9 +1,13 @@
 pub mod BadBytes
+pub mod Cutting
 pub mod Decoded
 pub mod Extents
 pub mod Longest
 pub mod Meanings
 pub mod Quotations
+pub mod Recut
+pub mod Refusals
+pub mod Rules
 pub mod Spelled
 pub mod Standing
 pub mod Tables

@@ -28,7 +28,7 @@ use Rattle.c_tokens.proofs.Spelled.{word_is_name, number_is_word, begins_mark, m
 use Rattle.c_tokens.proofs.Quotations.{is_read, is_quoted}
 
 -- what the first byte of a token says of its kind
-abbrev Begins : TokenKind → ℕ → Type 0
+abbrev pub Begins : TokenKind → ℕ → Type 0
 Begins Name b = begins_name b ≡ true
 Begins Word b = begins_name b ≡ true
 Begins Number b = is_ascii_digit b ≡ true
@@ -36,7 +36,7 @@ Begins Character b = b ≡ 39
 Begins Text b = b ≡ 34
 Begins Mark b = begins_mark b ≡ true
 
-token_begins : (x : List ℕ) (kind : TokenKind) (class : Class) → IsToken kind class x → Begins kind (slice_index x 0)
+pub token_begins : (x : List ℕ) (kind : TokenKind) (class : Class) → IsToken kind class x → Begins kind (slice_index x 0)
 token_begins x Name class is = (and_parts (begins_name (slice_index x 0)) (list_all is_word_byte x) is.1.is).0
 token_begins x Word class is = (and_parts (begins_name (slice_index x 0)) (list_all is_word_byte x) (word_is_name x class is)).0
 token_begins x Number class is = (number_is_word x is.1).1
@@ -49,17 +49,17 @@ begins_or_digit : (digit upper lower line : Bool) → ((upper || lower) || line)
 begins_or_digit true upper lower line is = refl
 begins_or_digit false upper lower line is = is
 
-begins_is_word : (b : ℕ) → begins_name b ≡ true → is_word_byte b ≡ true
+pub begins_is_word : (b : ℕ) → begins_name b ≡ true → is_word_byte b ≡ true
 begins_is_word b is = begins_or_digit (is_in_range 48 57 b) (is_in_range 65 90 b) (is_in_range 97 122 b) (b == 95) is
 
 no_digit_begins : (digit upper lower line : Bool) → digit ≡ false → (((digit || upper) || lower) || line) ≡ true → ((upper || lower) || line) ≡ true
 no_digit_begins true upper lower line none is = cc
 no_digit_begins false upper lower line none is = is
 
-word_begins : (b : ℕ) → is_ascii_digit b ≡ false → is_word_byte b ≡ true → begins_name b ≡ true
+pub word_begins : (b : ℕ) → is_ascii_digit b ≡ false → is_word_byte b ≡ true → begins_name b ≡ true
 word_begins b none is = no_digit_begins (is_in_range 48 57 b) (is_in_range 65 90 b) (is_in_range 97 122 b) (b == 95) none is
 
-mark_is_apart : (b : ℕ) → begins_mark b ≡ true → (is_word_byte b ≡ false) × ((b == 39) ≡ false) × ((b == 34) ≡ false)
+pub mark_is_apart : (b : ℕ) → begins_mark b ≡ true → (is_word_byte b ≡ false) × ((b == 39) ≡ false) × ((b == 34) ≡ false)
 mark_is_apart b is =
     let outer = and_parts (not (is_word_byte b) && not (b == 39)) (not (b == 34)) is in
     let inner = and_parts (not (is_word_byte b)) (not (b == 39)) outer.0 in
@@ -75,15 +75,15 @@ token_is_word x Text class first is = let no_word : is_word_byte 34 ≡ true = s
 token_is_word x Mark class first is = absurd (both_ways (is_word_byte (slice_index x 0)) (mark_is_apart (slice_index x 0) (mark_begins x class is)).0 first)
 
 -- a token that begins with a quote is a character or a text
-token_is_character : (x : List ℕ) (kind : TokenKind) (class : Class) → slice_index x 0 ≡ 39 → IsToken kind class x → (bytes : List ℕ) × IsQuoted 39 x bytes
+pub token_is_character : (x : List ℕ) (kind : TokenKind) (class : Class) → slice_index x 0 ≡ 39 → IsToken kind class x → (b : ℕ) × IsQuoted 39 x (b ∷ [])
 token_is_character x Name class first is = let no : begins_name 39 ≡ true = subst (λ b. begins_name b ≡ true) first (token_begins x Name class is) in cc
 token_is_character x Word class first is = let no : begins_name 39 ≡ true = subst (λ b. begins_name b ≡ true) first (token_begins x Word class is) in cc
 token_is_character x Number class first is = let no : is_ascii_digit 39 ≡ true = subst (λ b. is_ascii_digit b ≡ true) first (token_begins x Number class is) in cc
-token_is_character x Character class first is = (is.1.0 ∷ [], is.1.1)
+token_is_character x Character class first is = (is.1.0, is.1.1)
 token_is_character x Text class first is = let no : (34 == 39) ≡ true = eq-eqb 34 39 (sym (token_begins x Text class is) ∙ first) in cc
 token_is_character x Mark class first is = let no : begins_mark 39 ≡ true = subst (λ b. begins_mark b ≡ true) first (token_begins x Mark class is) in cc
 
-token_is_text : (x : List ℕ) (kind : TokenKind) (class : Class) → slice_index x 0 ≡ 34 → IsToken kind class x → (bytes : List ℕ) × IsQuoted 34 x bytes
+pub token_is_text : (x : List ℕ) (kind : TokenKind) (class : Class) → slice_index x 0 ≡ 34 → IsToken kind class x → (bytes : List ℕ) × IsQuoted 34 x bytes
 token_is_text x Name class first is = let no : begins_name 34 ≡ true = subst (λ b. begins_name b ≡ true) first (token_begins x Name class is) in cc
 token_is_text x Word class first is = let no : begins_name 34 ≡ true = subst (λ b. begins_name b ≡ true) first (token_begins x Word class is) in cc
 token_is_text x Number class first is = let no : is_ascii_digit 34 ≡ true = subst (λ b. is_ascii_digit b ≡ true) first (token_begins x Number class is) in cc
@@ -101,7 +101,7 @@ token_is_mark x Text class word character text is = absurd (both_ways (slice_ind
 token_is_mark x Mark class word character text is = is
 
 -- what is said of one lexeme is said of an equal one
-moved : (P : TokenKind → Class → ℕ → Type 0) (kind k : TokenKind) (class d : Class) (n m : ℕ) → Lexeme k d m ≡ Lexeme kind class n → P k d m → P kind class n
+pub moved : (P : TokenKind → Class → ℕ → Type 0) (kind k : TokenKind) (class d : Class) (n m : ℕ) → Lexeme k d m ≡ Lexeme kind class n → P k d m → P kind class n
 moved P kind k class d n m same here =
     let kinds : k ≡ kind = cc in
     let classes : d ≡ class = cc in
@@ -110,7 +110,7 @@ moved P kind k class d n m same here =
 
 -- ---- names, words and numbers
 
-all_in_prefix : (p : ℕ → Bool) (xs : List ℕ) → list_all p (take (prefix_len p xs) xs) ≡ true
+pub all_in_prefix : (p : ℕ → Bool) (xs : List ℕ) → list_all p (take (prefix_len p xs) xs) ≡ true
 all_in_prefix p [] = refl
 all_in_prefix p (x ∷ xs) = prefix_case p x xs (p x) refl (all_in_prefix p xs) where
   prefix_case : (p : ℕ → Bool) (x : ℕ) (xs : List ℕ) (t : Bool) → p x ≡ t → list_all p (take (prefix_len p xs) xs) ≡ true → list_all p (take (cond t (1 + prefix_len p xs) 0) (x ∷ xs)) ≡ true
@@ -150,7 +150,7 @@ run_is word true kind class n d first all is = number_is word (is_some (number_o
 run_is word false kind class n d first all is =
     named_is word (word_of word) kind class n (and_from (begins_name (slice_index word 0)) (list_all is_word_byte word) (word_begins (slice_index word 0) d first) all) refl is
 
-some_prefix : (p : ℕ → Bool) (z : List ℕ) → 0 < length z → p (slice_index z 0) ≡ true → 0 < prefix_len p z
+pub some_prefix : (p : ℕ → Bool) (z : List ℕ) → 0 < length z → p (slice_index z 0) ≡ true → 0 < prefix_len p z
 some_prefix p [] some first = absurd (omega arith)
 some_prefix p (x ∷ xs) some first = subst (λ t. 0 < cond t (1 + prefix_len p xs) 0) (sym first) (omega arith)
 
@@ -175,7 +175,7 @@ run_longest z kind class n some first is =
 -- ---- characters and texts
 
 -- what is quoted has an end of its own
-ends_once : (quote : ℕ) (rest : List ℕ) (found : Quoted) (m : ℕ) (bytes : List ℕ) → quote ≢ 92 → quoted_from quote Plain rest ≡ Some found → m ≤ length rest → IsQuoted quote (quote ∷ take m rest) bytes → m ≡ found.size
+pub ends_once : (quote : ℕ) (rest : List ℕ) (found : Quoted) (m : ℕ) (bytes : List ℕ) → quote ≢ 92 → quoted_from quote Plain rest ≡ Some found → m ≤ length rest → IsQuoted quote (quote ∷ take m rest) bytes → m ≡ found.size
 ends_once quote rest found m bytes other is fits whole =
     let inner : take m rest ≡ whole.source ++ quote ∷ [] = cc (whole.is) in
     let split : whole.source ++ quote ∷ drop m rest ≡ rest = sym (append_assoc whole.source (quote ∷ []) (drop m rest)) ∙ ap (λ xs. xs ++ drop m rest) (sym inner) ∙ take-append-drop m rest in
@@ -185,7 +185,7 @@ ends_once quote rest found m bytes other is fits whole =
     omega (arith, size, length-take-le m rest fits, ap length inner, length-append whole.source (quote ∷ []))
 
 -- the whole of what is quoted
-is_whole : (quote : ℕ) (rest : List ℕ) (found : Quoted) → quoted_from quote Plain rest ≡ Some found → IsQuoted quote (take (found.size + 1) (quote ∷ rest)) found.bytes
+pub is_whole : (quote : ℕ) (rest : List ℕ) (found : Quoted) → quoted_from quote Plain rest ≡ Some found → IsQuoted quote (take (found.size + 1) (quote ∷ rest)) found.bytes
 is_whole quote rest found is =
     let read = is_read quote Plain rest found tt is in
     record { source = read.source; is = rw add-one (ap (λ xs. quote ∷ xs) read.is); spells = read.spells }
@@ -209,7 +209,7 @@ character_is rest found true kind class n is one told =
       character_ends rest found zero other d is more fits token = omega arith
       character_ends rest found (suc m) other d is more fits token =
           let whole = token_is_character (39 ∷ take m rest) other d refl token in
-          let same = ends_once 39 rest found m whole.0 (λ e. let absurd_equation : (39 == 92) ≡ true = eq-eqb 39 92 e in cc) is (omega (arith, fits)) whole.1 in
+          let same = ends_once 39 rest found m (whole.0 ∷ []) (λ e. let absurd_equation : (39 == 92) ≡ true = eq-eqb 39 92 e in cc) is (omega (arith, fits)) whole.1 in
           omega (arith, same, more)
 character_is rest found false kind class n is one told = cc
 
@@ -237,7 +237,7 @@ text_longest rest (Some found) kind class n is told =
 -- ---- marks
 
 -- no longer front is a mark
-no_more : (z : List ℕ) (m : ℕ) (class : Class) → 3 < m → m ≤ length z → mark_of (take m z) ≡ Some class → ⊥
+pub no_more : (z : List ℕ) (m : ℕ) (class : Class) → 3 < m → m ≤ length z → mark_of (take m z) ≡ Some class → ⊥
 no_more z zero class more fits is = omega arith
 no_more z (suc zero) class more fits is = omega arith
 no_more z (suc (suc zero)) class more fits is = omega arith
@@ -288,17 +288,17 @@ after_one z m d three two more fits is =
       | inr within ↦ let pair : m ≡ 2 = omega arith in no_two z d (subst (λ x. x ≤ length z) pair fits) two (subst (λ x. mark_of (take x z) ≡ Some d) pair is)
     ]
 
-abbrev IsLongestMark : List ℕ → TokenKind → Class → ℕ → Type 0
+abbrev pub IsLongestMark : List ℕ → TokenKind → Class → ℕ → Type 0
 IsLongestMark z kind class n = (kind ≡ Mark) × (0 < n) × (n ≤ length z) × (mark_of (take n z) ≡ Some class) × ((m : ℕ) (d : Class) → n < m → m ≤ length z → mark_of (take m z) ≡ Some d → ⊥)
 
 module _ (z : List ℕ) (kind : TokenKind) (class : Class) (n : ℕ) where
-  mark_by : (o₃ o₂ o₁ : Option Class) → 0 < length z → mark_of_three (slice_index z 0) (slice_index z 1) (slice_index z 2) ≡ o₃ → mark_of_two (slice_index z 0) (slice_index z 1) ≡ o₂ → mark_of_one (slice_index z 0) ≡ o₁ → or_shorter 3 o₃ (or_shorter 2 o₂ (or_shorter 1 o₁ (Bad BadByte))) ≡ Lexeme kind class n → IsLongestMark z kind class n
+  pub mark_by : (o₃ o₂ o₁ : Option Class) → 0 < length z → mark_of_three (slice_index z 0) (slice_index z 1) (slice_index z 2) ≡ o₃ → mark_of_two (slice_index z 0) (slice_index z 1) ≡ o₂ → mark_of_one (slice_index z 0) ≡ o₁ → or_shorter 3 o₃ (or_shorter 2 o₂ (or_shorter 1 o₁ (Bad BadByte))) ≡ Lexeme kind class n → IsLongestMark z kind class n
   mark_by (Some m₃) o₂ o₁ some three two one told = moved (IsLongestMark z) kind Mark class m₃ n 3 told (let is = three_mark z m₃ three in (refl, omega arith, is.0, is.1, λ m d. no_more z m d))
   mark_by None (Some m₂) o₁ some three two one told = moved (IsLongestMark z) kind Mark class m₂ n 2 told (let is = two_mark z m₂ two in (refl, omega arith, is.0, is.1, λ m d. after_two z m d three))
   mark_by None None (Some m₁) some three two one told = moved (IsLongestMark z) kind Mark class m₁ n 1 told (refl, omega arith, omega (arith, some), one_mark z m₁ some one, λ m d. after_one z m d three two)
   mark_by None None None some three two one told = cc
 
-mark_longest : (z : List ℕ) (kind : TokenKind) (class : Class) (n : ℕ) → 0 < length z → is_word_byte (slice_index z 0) ≡ false → (slice_index z 0 == 39) ≡ false → (slice_index z 0 == 34) ≡ false → mark z ≡ Lexeme kind class n → IsLongest z kind class n
+pub mark_longest : (z : List ℕ) (kind : TokenKind) (class : Class) (n : ℕ) → 0 < length z → is_word_byte (slice_index z 0) ≡ false → (slice_index z 0 == 39) ≡ false → (slice_index z 0 == 34) ≡ false → mark z ≡ Lexeme kind class n → IsLongest z kind class n
 unfolding mark
 mark_longest z kind class n some word character text told =
     let first = slice_index z 0 in
@@ -337,7 +337,7 @@ slash_longest z kind class n some first told =
       ]
     ]
 
-quote_first : (z : List ℕ) (quote : ℕ) → 0 < length z → (slice_index z 0 == quote) ≡ true → z ≡ quote ∷ drop 1 z
+pub quote_first : (z : List ℕ) (quote : ℕ) → 0 < length z → (slice_index z 0 == quote) ≡ true → z ≡ quote ∷ drop 1 z
 quote_first [] quote some is = absurd (omega arith)
 quote_first (b ∷ z) quote some is = ap (λ x. x ∷ z) (eqb-true b quote is)
 

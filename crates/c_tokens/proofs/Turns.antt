@@ -58,7 +58,7 @@ abbrev pub left_of : ℕ → List ℕ → ℕ → Tokens
 left_of file bytes from = tokens_after file (take from bytes) 0 (drop from bytes)
 
 -- the next piece is this one, of n bytes
-goes_on : (file : ℕ) (bytes : List ℕ) (from n : ℕ) → tokens_after file (take from bytes ++ take n (drop from bytes)) 0 (drop n (drop from bytes)) ≡ left_of file bytes (from + n)
+pub goes_on : (file : ℕ) (bytes : List ℕ) (from n : ℕ) → tokens_after file (take from bytes ++ take n (drop from bytes)) 0 (drop n (drop from bytes)) ≡ left_of file bytes (from + n)
 goes_on file bytes from n = rw (take-add from n bytes, drop-drop n from bytes) refl
 
 first_is : (file : ℕ) (before z : List ℕ) (found : Piece) → 0 < length z → piece z ≡ found → tokens_after file before 0 z ≡ with_piece found file before (λ left. tokens_after file (before ++ take 1 z) left (drop 1 z))

@@ -15,12 +15,12 @@ use Rattle.c_tokens.specs.Lexical.{IsLongest, IsLongestOf}
 use Rattle.c_tokens.proofs.Longest.{piece_longest}
 
 -- the tokens before which one token stands
-record IsLed (token : Token) (rest : Tokens) (found : List Token) : Type 0 where
-  inner : List Token
-  is : rest ≡ Ok inner
-  whole : token ∷ inner ≡ found
+pub record IsLed (token : Token) (rest : Tokens) (found : List Token) : Type 0 where
+  pub inner : List Token
+  pub is : rest ≡ Ok inner
+  pub whole : token ∷ inner ≡ found
 
-led_parts : (token : Token) (rest : Tokens) (found : List Token) → led_by (token ∷ []) rest ≡ Ok found → IsLed token rest found
+pub led_parts : (token : Token) (rest : Tokens) (found : List Token) → led_by (token ∷ []) rest ≡ Ok found → IsLed token rest found
 led_parts token (Ok inner) found is = record { inner = inner; is = refl; whole = cc }
 led_parts token (Err fault) found is = cc
 

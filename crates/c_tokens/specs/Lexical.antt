@@ -3,17 +3,13 @@ use Rattle.std.specs.Prelude.{◌≡◌, ◌≢◌, ℕ, ◌+◌, ◌-◌, ◌*�
 use Rattle.std.specs.List.{list_all}
 use Rattle.std.specs.Char.{is_ascii_alphabetic, is_ascii_hexdigit}
 use Rattle.std.specs.Int.{is_in_range}
-use Rattle.mx_base.specs.declared.places.Place.{Place}
 use Rattle.c_tokens.specs.declared.class.Class.{Class}
 use Rattle.c_tokens.specs.declared.class.Class.TheVariants as c
 use Rattle.c_tokens.specs.declared.class.TokenKind.{TokenKind}
 use Rattle.c_tokens.specs.declared.class.TokenKind.TheVariants.{Name, Word, Number, Character, Text, Mark}
-use Rattle.c_tokens.specs.declared.fault.TokenFault.{TokenFault}
-use Rattle.c_tokens.specs.declared.fault.TokenFault.TheVariants.{BadByte, BadNumber, LongName, OpenText, OutOfMemory}
 use Rattle.c_tokens.specs.declared.token.Token.{Token}
 use Rattle.c_tokens.specs.Numbers.{digit_of, number_of}
 use Rattle.c_tokens.specs.Marks.{mark_of_one, mark_of_two, mark_of_three}
-use Rattle.c_tokens.specs.Places.{place_after}
 use Rattle.c_tokens.specs.Pieces.{is_word_byte}
 use Rattle.c_tokens.specs.Quotes.{escape_of}
 use Rattle.c_tokens.specs.Words.{word_of}
@@ -74,18 +70,3 @@ IsLongestOf bytes t = IsLongest (drop t.from bytes) t.kind t.class (t.to - t.fro
 -- no front of z is a token
 abbrev pub BeginsNone : List ℕ → Type 0
 BeginsNone z = (m : ℕ) (kind : TokenKind) (class : Class) → m ≤ length z → IsToken kind class (take m z) → ⊥
-
--- the byte at this place begins no token
-pub record IsBadByte (file : ℕ) (bytes : List ℕ) (place : Place) : Type 0 where
-  pub from : ℕ
-  pub within : from < length bytes
-  pub place_is : place ≡ place_after file (take from bytes)
-  pub none : BeginsNone (drop from bytes)
-
--- where a fault is a bad byte, its place is that of a byte that begins no token
-abbrev pub TellsBadByte : ℕ → List ℕ → TokenFault → Type 0
-TellsBadByte file bytes (BadByte place) = IsBadByte file bytes place
-TellsBadByte file bytes (BadNumber place) = Unit {0}
-TellsBadByte file bytes (LongName place) = Unit {0}
-TellsBadByte file bytes (OpenText place) = Unit {0}
-TellsBadByte file bytes OutOfMemory = Unit {0}

@@ -1,7 +1,7 @@
 //! A text cut into its tokens.
 
 ghost use Rattle.std.specs.Prelude.{◌≡◌, ◌≤◌, ◌<◌, ◌+◌, ◌^◌, length, take, drop, fold, All, IfOk, IfErr};
-ghost use Rattle.c_tokens.specs.Lexical.{IsLongestOf, TellsBadByte};
+ghost use Rattle.c_tokens.specs.Lexical.{IsLongestOf};
 ghost use Rattle.c_tokens.specs.Places as places;
 ghost use Rattle.c_tokens.specs.Tokens as spec;
 
@@ -49,7 +49,6 @@ pub fn tokens(alloc: Global, bytes: &[u8], file: u32) -> Result<Vec<Token>, Toke
     ensures found { IfOk result (λ found. spec.tokens_of file bytes.now ≡ Ok found.items) }
     ensures longest { IfOk result (λ found. All (IsLongestOf bytes.now) found.items) }
     ensures refused { IfErr result (spec.Refuses (spec.tokens_of file bytes.now)) }
-    ensures bad_byte { IfErr result (TellsBadByte file bytes.now) }
 {
     let mut tokens = Vec::new(alloc);
     let mut at = Cursor {

@@ -18,7 +18,10 @@ mod words;
 pub use class::{Class, TokenKind};
 pub use cut::tokens;
 pub use fault::TokenFault;
-pub use laws::{characters_are_quoted, texts_are_quoted, tokens_are_longest};
+pub use laws::{
+    bad_bytes_begin_no_token, bad_numbers_are_runs, characters_are_quoted, long_names_are_runs,
+    open_texts_are_unended, texts_are_quoted, tokens_are_longest, tokens_stand,
+};
 pub use numbers::{Number, number_of};
 pub use quotes::{character_of, text_of};
 pub use token::Token;

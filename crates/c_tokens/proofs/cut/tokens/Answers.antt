@@ -1,11 +1,10 @@
 use Rattle.std.proofs.Common.{arith, ◌≡◌, ◌<◌, ◌≤◌, length, drop, sym, ◌∙◌, ap}
-use Rattle.std.proofs.lemmas.Bool.{eqb-true, eqb-false}
+use Rattle.std.proofs.lemmas.Bool.{eqb-true}
 use Rattle.c_tokens.specs.declared.piece.Piece.TheVariants as p
 use Rattle.c_tokens.specs.Pieces.{piece}
 use Rattle.c_tokens.specs.Tokens.{led_by}
-use Rattle.c_tokens.proofs.Turns.{left_of, stands_on, some_left, none_left, gap_turn, lexeme_turn, bad_turn, end_turn}
+use Rattle.c_tokens.proofs.Turns.{left_of, stands_on, some_left, none_left, gap_turn, lexeme_turn, end_turn}
 use Rattle.c_tokens.proofs.Whole.{tokens_longest}
-use Rattle.c_tokens.proofs.BadBytes.{tells_bad_byte}
 use Rattle.c_tokens.proofs.cut.tokens.Goals as goal
 
 pub loop-at-preserved-in-Gap : goal.loop-at-preserved-in-Gap
@@ -44,13 +43,3 @@ returns-clause-longest c =
     let kept = c.loop-at.invariant in
     let end : length bytes ≤ at.from = none_left kept.stands (eqb-true (length at.rest.now) 0 (sym c.loop-at-test.ensures)) in
     tokens_longest c.args.file bytes c.loop-at.tokens.items (kept.same ∙ end_turn c.args.file bytes at.from c.loop-at.tokens.items end)
-
-pub returns-in-Bad-clause-bad_byte : goal.returns-in-Bad-clause-bad_byte
-returns-in-Bad-clause-bad_byte c =
-    let bytes = c.args.bytes.now in
-    let at = c.loop-at.at in
-    let kept = c.loop-at.invariant in
-    let left : 0 < length at.rest.now = grind (arith, eqb-false (length at.rest.now) 0 (sym c.loop-at-test.ensures)) in
-    let is : piece (drop at.from bytes) ≡ p.Bad c.in-Bad.flaw = cc (c.in-Bad.ensures.value, kept.stands.rest_is) in
-    let turned = kept.same ∙ bad_turn c.args.file bytes at.from c.loop-at.tokens.items c.in-Bad.flaw (some_left kept.stands left) is in
-    tells_bad_byte c.args.file bytes c.fault_at.result (rw (c.fault_at.ensures, kept.stands.place_is) turned)

@@ -1,0 +1,7 @@
+use Rattle.c_tokens.specs.declared.fault.Flaw.TheVariants.{BadNumber}
+use Rattle.c_tokens.proofs.Refusals.{first_bad}
+use Rattle.c_tokens.proofs.Recut.{bad_refuses}
+use Rattle.c_tokens.proofs.laws.bad_numbers_are_runs.Goals as goal
+
+pub returns : goal.returns
+returns c = λ file bytes place. (first_bad file bytes BadNumber place, bad_refuses file bytes BadNumber place)
