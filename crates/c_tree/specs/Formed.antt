@@ -1,6 +1,6 @@
 -- Which trees are formed: each node has the parts that the grammar gives it. Every number of an operator is a place in its list, every name is a
 -- name of the language, every number is the word of its type, and every line and column is at least 1.
-use Rattle.std.specs.Prelude.{◌≡◌, ℕ, Bool, true, false, ◌&&◌, ◌==◌, not, nat_le, nat_lt, List, [], ◌∷◌, Option, Some, None, is_some}
+use Rattle.std.specs.Prelude.{◌≡◌, ℕ, Bool, true, false, ◌&&◌, ◌==◌, not, nat_le, nat_lt, List, [], ◌∷◌, Option, Some, None}
 use Rattle.std.specs.List.{list_all}
 use Rattle.mx_base.specs.declared.places.Place.{Place}
 use Rattle.mx_base.specs.declared.numbers.IntKind.{IntKind}
@@ -13,13 +13,13 @@ use Rattle.c_tree.specs.declared.tree.ItemKind.TheVariants as k
 use Rattle.c_tree.specs.declared.tree.Decl.{Decl}
 use Rattle.c_tree.specs.declared.tree.Base.{Base}
 use Rattle.c_tree.specs.declared.tree.Base.TheVariants as b
-use Rattle.c_tree.specs.declared.tree.Expr.{Expr, Expr-F, fold-Expr}
+use Rattle.c_tree.specs.declared.tree.Expr.{Expr, fold-Expr}
 use Rattle.c_tree.specs.declared.tree.ExprKind.{ExprKind-F}
 use Rattle.c_tree.specs.declared.tree.ExprKind.TheOpen as e
-use Rattle.c_tree.specs.declared.tree.Init.{Init, Init-F, fold-Init}
+use Rattle.c_tree.specs.declared.tree.Init.{Init, fold-Init}
 use Rattle.c_tree.specs.declared.tree.InitKind.{InitKind-F}
 use Rattle.c_tree.specs.declared.tree.InitKind.TheOpen as i
-use Rattle.c_tree.specs.declared.tree.Stmt.{Stmt, Stmt-F, fold-Stmt}
+use Rattle.c_tree.specs.declared.tree.Stmt.{Stmt, fold-Stmt}
 use Rattle.c_tree.specs.declared.tree.StmtKind.{StmtKind-F}
 use Rattle.c_tree.specs.declared.tree.StmtKind.TheOpen as s
 use Rattle.c_tree.specs.Names.{is_name}

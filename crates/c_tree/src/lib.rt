@@ -3,11 +3,16 @@
 #![tactic(auto)]
 
 mod count;
+mod laws;
 mod names;
 #[cfg(test)]
 mod tests;
 mod tree;
 
 pub use count::nodes;
+pub use laws::{
+    braces_hold_a_part, names_and_numbers_are_of_the_language, names_are_short_and_free,
+    numbers_are_words_of_their_types, operators_are_of_their_lists, places_count_from_one,
+};
 pub use names::{Bytes, Name};
 pub use tree::{Base, Decl, Expr, ExprKind, Init, InitKind, Item, ItemKind, Stmt, StmtKind, Tree};
