@@ -1,5 +1,5 @@
 -- From what was read of a file to what is due for it.
-use Rattle.std.proofs.Common.{◌≡◌, ℕ, ◌≤◌, Option, Some, Ok, List, length, take, min, ap, sym, subst, ◌∙◌, refl, arith}
+use Rattle.std.proofs.Common.{◌≡◌, ℕ, ◌≤◌, Option, Some, Ok, List, length, take, ap, sym, subst, ◌∙◌, refl, arith}
 use Rattle.std.proofs.lemmas.List.{take_all, length-take}
 use Rattle.c_reader.specs.EarlyForm.{IsEarly}
 use Rattle.c_reader.specs.EarlyMeaning.{early_run}
@@ -7,7 +7,7 @@ use Rattle.c_reader.specs.declared.early.Act.{Act}
 use Rattle.mx_base.specs.Outside.{FileFacts, Untold, Absent, Holds, Adds}
 use Rattle.mpx_main.specs.declared.end.End.{End}
 use Rattle.mpx_main.specs.declared.end.End.TheVariants.{Unbuilt}
-use Rattle.mpx_main.specs.Due.{Due, run_due, refused_due, IsDueForText, IsProgram, IsNoProgram, IsDueForFile, Works}
+use Rattle.mpx_main.specs.Due.{Due, run_due, IsDueForText, IsProgram, IsNoProgram, IsDueForFile, Works}
 use Rattle.std.specs.declared.vec.Vec.{Vec}
 use Rattle.std.specs.Global.{Global}
 use Rattle.mpx_main.specs.Sources.{IsFrontOf, ReadsSource}

@@ -1,5 +1,5 @@
 -- How a command ends: the status, and the line on standard error.
-use Rattle.std.specs.Prelude.{ℕ, List, [], ◌∷◌, ◌++◌, false, codes}
+use Rattle.std.specs.Prelude.{ℕ, List, ◌++◌, false, codes}
 use Rattle.std.specs.Fmt.{decimal, digits}
 use Rattle.mpx_main.specs.declared.end.End.{End}
 use Rattle.mpx_main.specs.declared.end.End.TheVariants.{Exit, Bounds, Missing, Unbuilt, WordsRefused, ReadFault, WriteFault, NoMemory}

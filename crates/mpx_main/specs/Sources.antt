@@ -1,5 +1,5 @@
 -- What reading a source file gives, by what is told of the file.
-use Rattle.std.specs.Prelude.{◌≡◌, ℕ, ◌≤◌, Option, None, Some, Result, Ok, Err, List, [], length, take, vec_items}
+use Rattle.std.specs.Prelude.{◌≡◌, ℕ, ◌≤◌, Option, None, Some, Result, Ok, Err, List, [], length, take}
 use Rattle.std.specs.declared.vec.Vec.{Vec}
 use Rattle.std.specs.Global.{Global}
 use Rattle.mx_base.specs.Outside.{FileFacts, Untold, Absent, Holds, MayLack, HasRisen}

@@ -1,1 +1,3 @@
+mod EarlyPrograms
 mod EarlyRunning
+mod EarlySteps

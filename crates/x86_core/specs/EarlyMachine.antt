@@ -1,5 +1,7 @@
 -- The machine of the first path as the state that its definition speaks of, and its steps as effects.
-use Rattle.std.specs.Prelude.{◌≡◌, slice_index}
+use Rattle.std.specs.Prelude.{◌≡◌, false, slice_index}
+use Rattle.mx_base.specs.Bounds.{complement}
+use Rattle.x86_forms.specs.Arithmetic.{no_flags}
 use Rattle.x86_forms.specs.EarlyEffects.{EarlyState, EarlyEffect, Goes, Sends, Ends, CodeEnd, Exits, Violates, Unmapped as AtUnmapped, Undefined as AtUndefined}
 use Rattle.x86_core.specs.declared.early.EarlyStop.{EarlyStop}
 use Rattle.x86_core.specs.declared.early.EarlyStop.TheVariants.{Exit, Bounds, Unmapped, Undefined, WriteFault}
@@ -7,8 +9,12 @@ use Rattle.x86_core.specs.declared.early.machine.Step.{Step}
 use Rattle.x86_core.specs.declared.early.machine.Step.TheVariants.{On, Put, End}
 use Rattle.x86_core.specs.declared.early.machine.Machine.{Machine}
 
+-- none of the instructions changes flags, BNDPRESERVE or, but for one that fails, BNDSTATUS
 abbrev pub seen : Machine → EarlyState
-seen m = record { regs = slice_index m.regs; lower = slice_index m.lower; held = slice_index m.held; array = m.array.items }
+seen m = record {
+  processor = record { regs = slice_index m.regs; flags = no_flags; rip = m.rip; bounds = λ b. record { lb = slice_index m.lower b; ub = complement (slice_index m.held b) }; preserve = false; status = 0 };
+  array = m.array.items;
+}
 
 -- the end of a run that a stop tells of; no instruction ends in a fault of the sink
 abbrev pub TellsEnd : EarlyStop → CodeEnd → Type 0

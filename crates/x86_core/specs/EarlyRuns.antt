@@ -12,17 +12,21 @@ abbrev pub PutsByte : {E : Type 0} → Option (List ℕ) → Option (List ℕ) �
 PutsByte held held' faults faults' byte (Ok v) = Adds held held' (byte ∷ []) × (faults' ≡ faults)
 PutsByte held held' faults faults' byte (Err e) = Adds held held' [] × HasRisen faults faults'
 
--- The run ends so. The sink has its bytes more, and no fault was counted.
-pub record EndsAs (run : CodeRun) (end : CodeEnd) (held held' : Option (List ℕ)) (faults faults' : ℕ) : Type 0 where
+-- the run ends so, and the sink has its bytes more
+pub record EndsAs (run : CodeRun) (end : CodeEnd) (held held' : Option (List ℕ)) : Type 0 where
   pub ends : run.ends ≡ end
   pub adds : Adds held held' run.out
-  pub no_fault : faults' ≡ faults
 
--- what a run of code answers, and what it leaves in the sink and in its count of faults
-abbrev pub RunsCode : CodeRun → Option (List ℕ) → Option (List ℕ) → ℕ → ℕ → Result EarlyStop NoMemory → Type 0
-RunsCode run held held' faults faults' (Ok (Exit code)) = EndsAs run (Exits code) held held' faults faults'
-RunsCode run held held' faults faults' (Ok (Bounds value lb ub)) = EndsAs run (Violates value lb ub) held held' faults faults'
-RunsCode run held held' faults faults' (Ok Unmapped) = EndsAs run AtUnmapped held held' faults faults'
-RunsCode run held held' faults faults' (Ok Undefined) = EndsAs run AtUndefined held held' faults faults'
-RunsCode run held held' faults faults' (Ok WriteFault) = HasRisen faults faults' × AddsFront held held' run.out
-RunsCode run held held' faults faults' (Err e) = (held' ≡ held) × (faults' ≡ faults)
+-- what a run of code answers, and what it leaves in the sink
+abbrev pub RunsCode : CodeRun → Option (List ℕ) → Option (List ℕ) → Result EarlyStop NoMemory → Type 0
+RunsCode run held held' (Ok (Exit code)) = EndsAs run (Exits code) held held'
+RunsCode run held held' (Ok (Bounds value lb ub)) = EndsAs run (Violates value lb ub) held held'
+RunsCode run held held' (Ok Unmapped) = EndsAs run AtUnmapped held held'
+RunsCode run held held' (Ok Undefined) = EndsAs run AtUndefined held held'
+RunsCode run held held' (Ok WriteFault) = AddsFront held held' run.out
+RunsCode run held held' (Err e) = held' ≡ held
+
+-- the sink's count of faults rises exactly where the run ends in a write fault
+abbrev pub CountsFaults : Result EarlyStop NoMemory → ℕ → ℕ → Type 0
+CountsFaults (Ok WriteFault) faults faults' = HasRisen faults faults'
+CountsFaults result faults faults' = faults' ≡ faults

@@ -1,3 +1,3 @@
+pub mod EarlyLaws
 pub mod EarlyMachine
-pub mod EarlyReads
 pub mod EarlyRuns

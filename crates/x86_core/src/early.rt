@@ -1,15 +1,14 @@
 //! The machine of the first path: it executes code bytes over a plain vector.
 mod machine;
-mod reading;
 
 ghost use Rattle.std.specs.Prelude.{◌≡◌};
-ghost use Rattle.x86_forms.specs.EarlyCode.{code_run};
-ghost use Rattle.x86_core.specs.EarlyRuns.{RunsCode, PutsByte};
+ghost use Rattle.x86_forms.specs.EarlyCode.{CodeRun, CodeRuns};
+ghost use Rattle.x86_core.specs.EarlyRuns.{RunsCode, CountsFaults, PutsByte};
 
-use machine::{CODE, Machine, Step};
+use machine::{Machine, Step};
 use mx_base::{Failed, OutOfMemory, Sink};
-use reading::read_instr;
 use std::alloc::Global;
+use x86_decode::decode;
 
 /// How the run of code ended.
 #[derive(Clone, Copy, Debug, PartialEq, Eq)]
@@ -20,7 +19,7 @@ pub enum EarlyStop {
     Bounds { value: u64, lb: u64, ub: u64 },
     /// An access to a byte outside the vector.
     Unmapped,
-    /// The bytes left begin none of the seven instruction forms, or the service is neither put nor exit.
+    /// The bytes left begin with no instruction or with one of another form, or the service is neither put nor exit.
     Undefined,
     /// A byte could not be put.
     WriteFault,
@@ -41,13 +40,14 @@ pub fn run_early<O: Sink>(
     size: u16,
     out: &mut O,
 ) -> Result<EarlyStop, OutOfMemory>
-    ensures { RunsCode (code_run code.now size) (O.held out.old) (O.held out.new) (O.faults out.old) (O.faults out.new) result }
+    ensures runs { (run : CodeRun) → CodeRuns code.now size run → RunsCode run (O.held out.old) (O.held out.new) result }
+    ensures faults { CountsFaults result (O.faults out.old) (O.faults out.new) }
 {
     let mut machine = Machine::new(alloc, size)?;
     let mut rest = code;
-    while let Some((instr, after)) = read_instr(rest) {
-        rest = after;
-        let next = CODE + (code.len() - rest.len()) as u64;
+    while let Ok((instr, length)) = decode(rest) {
+        rest = &rest[length as usize..];
+        let next = machine.address_after(length);
         match machine.step(instr, next) {
             Step::On => {}
             Step::Put(byte) => {

@@ -4,9 +4,6 @@ pub mod DoesOfBranches
 pub mod DoesOfMoves
 pub mod DoesOfNumbers
 pub mod DoesOfWatch
-mod EarlyBack
-pub mod EarlyFound
-pub mod EarlyRows
 pub mod RexBits
 pub mod ShortCode
 pub mod TableAccesses

@@ -1,10 +1,13 @@
 -- The run of code bytes of the first path: the instructions that they spell, one after another. None of these
 -- instructions jumps.
-use Rattle.std.specs.Prelude.{ℕ, zero, suc, ◌+◌, Option, None, Some, List, [], ◌∷◌, length, replicate}
-use Rattle.x86_forms.specs.declared.early.EarlyInstr.{EarlyInstr}
-use Rattle.x86_forms.specs.EarlySpelling.{spelling}
-use Rattle.x86_forms.specs.EarlyReading.{read_form}
+use Rattle.std.specs.Prelude.{◌≡◌, ℕ, ◌+◌, ◌%◌, ◌^◌, IsTrue, false, List, [], ◌∷◌, ◌++◌, length, replicate}
+use Rattle.std.specs.List.{flat_map, AllByRecursion}
+use Rattle.mx_base.specs.Bounds.{full_bounds}
+use Rattle.x86_forms.specs.declared.instr.Instr.{Instr}
+use Rattle.x86_forms.specs.Arithmetic.{no_flags}
 use Rattle.x86_forms.specs.EarlyEffects.{EarlyState, EarlyEffect, Goes, Sends, Ends, CodeEnd, Undefined, effect}
+use Rattle.x86_forms.specs.Spelling.{spelling}
+use Rattle.x86_forms.specs.Validity.{valid_of}
 
 -- the bytes that code puts, in order, and how it ends
 pub record CodeRun : Type 0 where
@@ -23,33 +26,32 @@ then_run (Goes s) rest = rest s
 then_run (Sends b s) rest = sends_first b (rest s)
 then_run (Ends e) rest = ended e
 
--- Instructions in a row, from this address on. Where none is left the bytes begin none.
-unfoldable pub forms_run : List EarlyInstr → ℕ → EarlyState → CodeRun
-forms_run [] at s = ended Undefined
-forms_run (i ∷ forms) at s = then_run (effect (at + length (spelling i)) i s) (forms_run forms (at + length (spelling i)))
+-- the address after an instruction
+unfoldable pub next_address : Instr → EarlyState → ℕ
+next_address i s = (s.processor.rip + length (spelling i)) % 2 ^ 64
 
--- an instruction that was read, and those of the bytes after it
-abbrev pub continued : Option (EarlyInstr × List ℕ) → (List ℕ → List EarlyInstr) → List EarlyInstr
-continued None more = []
-continued (Some r) more = r.0 ∷ more r.1
+-- Instructions in a row. Where none is left the bytes begin none.
+unfoldable pub program_run : List Instr → EarlyState → CodeRun
+program_run [] s = ended Undefined
+program_run (i ∷ program) s = then_run (effect i (next_address i s) s) (program_run program)
 
--- at most so many instructions from the front of the bytes
-unfoldable pub forms_within : ℕ → List ℕ → List EarlyInstr
-forms_within zero bytes = []
-forms_within (suc n) bytes = continued (read_form bytes) (forms_within n)
-
--- All instructions in a row that the bytes begin with. Each takes a byte at least, so there are no more than bytes.
-unfoldable pub forms_in : List ℕ → List EarlyInstr
-forms_in bytes = forms_within (length bytes) bytes
-
--- where code begins
-abbrev pub code_start : ℕ
-code_start = 0x0100_0000
+-- The code is the spellings of these instructions, one after another, and then bytes that begin with no instruction.
+-- Since no spelling is a prefix of another, there is exactly one such program for each code.
+pub record IsCodeOf (code : List ℕ) (program : List Instr) : Type 0 where
+  pub rest : List ℕ
+  pub valid : AllByRecursion (λ i. IsTrue (valid_of i)) program
+  pub bytes : code ≡ flat_map spelling program ++ rest
+  pub no_more : (i : Instr) (after : List ℕ) → IsTrue (valid_of i) → rest ≡ spelling i ++ after → ⊥
 
 -- registers and memory are 0, and the bounds registers are INIT, which allows every address
 abbrev pub started : ℕ → EarlyState
-started size = record { regs = λ r. 0; lower = λ b. 0; held = λ b. 0; array = replicate size 0 }
+started size = record {
+  processor = record { regs = λ r. 0; flags = no_flags; rip = 0x0100_0000; bounds = λ b. full_bounds; preserve = false; status = 0 };
+  array = replicate size 0;
+}
 
--- the run of code bytes over so many bytes of memory
-unfoldable pub code_run : List ℕ → ℕ → CodeRun
-code_run code size = forms_run (forms_in code) code_start (started size)
+-- what code bytes do over so many bytes of memory
+pub record CodeRuns (code : List ℕ) (size : ℕ) (run : CodeRun) : Type 0 where
+  pub program : List Instr
+  pub spells : IsCodeOf code program
+  pub does : run ≡ program_run program (started size)

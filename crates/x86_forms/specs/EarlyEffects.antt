@@ -1,21 +1,18 @@
--- What each instruction of the first path does (SDM volume 2, the instructions' pages), on a small state.
-use Rattle.std.specs.Prelude.{ℕ, ◌+◌, ◌-◌, ◌%◌, ◌^◌, Bool, ◌&&◌, nat_lt, nat_le, ◌==◌, if◌then◌else◌, List, length, slice_index, slice_set}
-use Rattle.std.specs.Int.{w64, cast_unsigned}
-use Rattle.x86_forms.specs.declared.early.EarlyMem.{EarlyMem}
-use Rattle.x86_forms.specs.declared.early.EarlyInstr.{EarlyInstr}
-use Rattle.x86_forms.specs.declared.early.EarlyInstr.TheVariants.{MovImm, MovByte, Movzx, Bndmk, Bndcl, Bndcu, Syscall}
+-- What each instruction of the first path does: its row of the instruction table, over memory that is one array of bytes.
+use Rattle.std.specs.Prelude.{ℕ, ◌+◌, ◌-◌, ◌%◌, Bool, true, false, ◌&&◌, nat_lt, nat_le, ◌==◌, if◌then◌else◌, Ok, Err, List, length, slice_index, slice_set}
+use Rattle.x86_forms.specs.declared.instr.Instr.{Instr}
+use Rattle.x86_forms.specs.declared.instr.Instr.TheVariants.{MovImm, MovMemImm, Movzx, Bndmk, Bndcl, Bndcu, Syscall}
+use Rattle.x86_forms.specs.declared.instr.Rm.TheVariants.{Reg as InReg, Mem as InMem}
+use Rattle.x86_forms.specs.Processor.{Processor, rax, with_reg}
+use Rattle.x86_forms.specs.Requests.{Store, Outcome, Done, Failed, Refused, Fault, Violates as Leaves, run}
+use Rattle.x86_forms.specs.Table.{row}
 
 -- the address of the first byte of memory; the bytes of the array stand from there, and no other byte is mapped
 abbrev pub memory_start : ℕ
 memory_start = 0x2000_0000
 
 pub record EarlyState : Type 0 where
-  -- the 64 bits of each register
-  pub regs : ℕ → ℕ
-  -- the lower bound of each bounds register
-  pub lower : ℕ → ℕ
-  -- its upper bound, held in one's complement
-  pub held : ℕ → ℕ
+  pub processor : Processor
   -- the bytes of memory
   pub array : List ℕ
 
@@ -36,42 +33,54 @@ pub data EarlyEffect : Type 0 where
   Sends : ℕ → EarlyState → EarlyEffect
   Ends : CodeEnd → EarlyEffect
 
--- the registers with one of them set
-abbrev pub updated : (ℕ → ℕ) → ℕ → ℕ → ℕ → ℕ
-updated numbers k n = λ q. if q == k then n else numbers q
+abbrev pub is_mapped : ℕ → List ℕ → Bool
+is_mapped a array = nat_le memory_start a && nat_lt a (memory_start + length array)
 
--- NOT of 64 bits
-abbrev pub complement : ℕ → ℕ
-complement n = 0xffff_ffff_ffff_ffff - n
+-- The array as the memory of the instruction table. Each access of the first path is of one byte, and none of its
+-- instructions loads or keeps bounds.
+abbrev pub array_memory : Store (List ℕ) (Unit {0})
+array_memory = record {
+  read = λ array at size. if is_mapped at array then Ok (slice_index array (at - memory_start)) else Err tt;
+  write = λ array at size value. if is_mapped at array then Ok (slice_set array (at - memory_start) value) else Err tt;
+  load = λ array at value. Err tt;
+  keep = λ array at value b. Err tt;
+  status = λ o before. before;
+}
 
--- the effective address
-unfoldable pub address : EarlyMem → EarlyState → ℕ
-address m s = (s.regs m.base + cast_unsigned w64 m.disp) % 2 ^ 64
+-- the forms of the first path
+abbrev pub is_early : Instr → Bool
+is_early (MovImm w r imm) = w == 32
+is_early (MovMemImm w m imm) = w == 8
+is_early (Movzx from r (InMem m)) = from == 8
+is_early (Bndmk b m) = true
+is_early (Bndcl b (InReg r)) = true
+is_early (Bndcu b (InReg r)) = true
+is_early Syscall = true
+is_early i = false
 
-abbrev pub is_mapped : ℕ → EarlyState → Bool
-is_mapped a s = nat_le memory_start a && nat_lt a (memory_start + length s.array)
+abbrev pub end_of_fault : Fault → CodeEnd
+end_of_fault (Leaves value b) = Violates value b.lb b.ub
+end_of_fault fault = Undefined
 
--- a check of a value that failed
-abbrev pub violation : EarlyState → ℕ → ℕ → EarlyEffect
-violation s bounds value = Ends (Violates value (s.lower bounds) (complement (s.held bounds)))
+abbrev pub effect_of : Outcome (List ℕ) (Unit {0}) → EarlyEffect
+effect_of (Done after array) = Goes (record { processor = after; array = array })
+effect_of (Failed fault left array) = Ends (end_of_fault fault)
+effect_of (Refused by left array) = Ends Unmapped
+
+-- what the row of an instruction does, with the address of the next one
+unfoldable pub row_effect : Instr → ℕ → EarlyState → EarlyEffect
+row_effect i next s = effect_of (run array_memory s.processor (row i next s.processor) s.array)
 
 -- The service whose number is in rax, with its argument in rdi: 0x1003 puts the low byte and answers 0, 60 ends the run.
--- The processor leaves the address of the next instruction in rcx.
-unfoldable pub service : ℕ → EarlyState → EarlyEffect
-service next s =
-    if s.regs 0 == 0x1003 then Sends (s.regs 7 % 0x100) (record s { regs = updated (updated s.regs 1 next) 0 0 })
-    else if s.regs 0 == 60 then Ends (Exits (s.regs 7 % 0x100))
+unfoldable pub served : EarlyEffect → EarlyEffect
+served (Goes s) =
+    if s.processor.regs rax == 0x1003
+    then Sends (s.processor.regs 7 % 0x100) (record { processor = record s.processor { regs = with_reg s.processor.regs rax 0 }; array = s.array })
+    else if s.processor.regs rax == 60 then Ends (Exits (s.processor.regs 7 % 0x100))
     else Ends Undefined
+served e = e
 
--- The effect of an instruction, with the address of the one after it.
-unfoldable pub effect : ℕ → EarlyInstr → EarlyState → EarlyEffect
-effect next (MovImm reg imm) s = Goes (record s { regs = updated s.regs reg imm })
-effect next (MovByte mem imm) s =
-    if is_mapped (address mem s) s then Goes (record s { array = slice_set s.array (address mem s - memory_start) imm }) else Ends Unmapped
-effect next (Movzx reg mem) s =
-    if is_mapped (address mem s) s then Goes (record s { regs = updated s.regs reg (slice_index s.array (address mem s - memory_start)) }) else Ends Unmapped
-effect next (Bndmk bounds mem) s =
-    Goes (record s { lower = updated s.lower bounds (s.regs mem.base); held = updated s.held bounds (complement (address mem s)) })
-effect next (Bndcl bounds reg) s = if nat_lt (s.regs reg) (s.lower bounds) then violation s bounds (s.regs reg) else Goes s
-effect next (Bndcu bounds reg) s = if nat_lt (complement (s.held bounds)) (s.regs reg) then violation s bounds (s.regs reg) else Goes s
-effect next Syscall s = service next s
+-- the effect of an instruction, with the address of the next one
+unfoldable pub effect : Instr → ℕ → EarlyState → EarlyEffect
+effect Syscall next s = served (row_effect Syscall next s)
+effect i next s = if is_early i then row_effect i next s else Ends Undefined

@@ -3,8 +3,6 @@ pub mod Arithmetic
 pub mod ConditionLaws
 pub mod EarlyCode
 pub mod EarlyEffects
-pub mod EarlyReading
-pub mod EarlySpelling
 pub mod Examples
 pub mod ExamplesOfBounds
 pub mod ExamplesOfBranches

@@ -8,7 +8,8 @@ ghost use Rattle.x86_forms.specs.Validity.{valid_of, mem_ok, base_ok, index_ok, 
 use crate::instr::{Base, Instr, Mem, Reg, Rm};
 use crate::spans::{Reach, Span};
 
-fn base_of(regs: &[u64; 16], next: u64, base: Base, index: Option<(Reg, u8)>) -> u64
+/// What the base of a memory operand adds to its address, `next` being the address of the next instruction.
+pub fn base_of(regs: &[u64; 16], next: u64, base: Base, index: Option<(Reg, u8)>) -> u64
     requires { IsTrue (base_ok base index) }
     ensures { result ≡ base_value (slice_index regs.now) next base }
 {
@@ -29,8 +30,9 @@ fn index_of(regs: &[u64; 16], index: Option<(Reg, u8)>) -> u64
     }
 }
 
+/// The address of a memory operand, `next` being the address of the next instruction.
 #[tactic(auto, unfolding(crate::specs::Processor::address))]
-fn address_of(regs: &[u64; 16], next: u64, m: Mem) -> u64
+pub fn address_of(regs: &[u64; 16], next: u64, m: Mem) -> u64
     requires { IsTrue (mem_ok m) }
     ensures { result ≡ address (slice_index regs.now) next m }
 {

@@ -6,7 +6,6 @@
 
 mod accesses;
 mod condition_laws;
-mod early;
 mod examples;
 mod instr;
 mod laws;
@@ -16,11 +15,8 @@ mod table_laws;
 mod validity;
 mod watch_laws;
 
-pub use accesses::reach;
+pub use accesses::{address_of, base_of, reach};
 pub use condition_laws::conditions_compare;
-pub use early::{
-    EarlyInstr, EarlyMem, early_code_is_a_row_of_instructions, early_instructions_have_one_spelling,
-};
 pub use examples::rows_do_as_the_manual_says;
 pub use instr::{Base, Instr, Mem, Reg, Rm};
 pub use laws::short_spellings;

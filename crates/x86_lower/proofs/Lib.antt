@@ -1,2 +1,3 @@
+mod EarlyBytes
 mod EarlyGuard
 mod EarlyRun

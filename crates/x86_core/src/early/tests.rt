@@ -54,6 +54,16 @@ const PUT_TWICE: [u8; 24] = [
     0x00, 0xB8, 0x03, 0x10, 0x00, 0x00, 0x0F, 0x05,
 ];
 
+/// `mov r9d, 0x20000000; mov ecx, 2; bndmk bnd1, [r9+rcx+1]; bndcl bnd1, r9; mov byte [r9+rcx+1], 7;
+/// movzx edi, byte [r9*2-0x1FFFFFFD]; mov eax, 0x1003; syscall; mov edi, 0; mov eax, 60; syscall`: registers that need a
+/// REX byte, and index registers. The load is of the byte that was stored.
+const REX_AND_INDEX: [u8; 57] = [
+    0x41, 0xB9, 0x00, 0x00, 0x00, 0x20, 0xB9, 0x02, 0x00, 0x00, 0x00, 0xF3, 0x41, 0x0F, 0x1B, 0x4C,
+    0x09, 0x01, 0xF3, 0x41, 0x0F, 0x1A, 0xC9, 0x41, 0xC6, 0x44, 0x09, 0x01, 0x07, 0x42, 0x0F, 0xB6,
+    0x3C, 0x4D, 0x03, 0x00, 0x00, 0xE0, 0xB8, 0x03, 0x10, 0x00, 0x00, 0x0F, 0x05, 0xBF, 0x00, 0x00,
+    0x00, 0x00, 0xB8, 0x3C, 0x00, 0x00, 0x00, 0x0F, 0x05,
+];
+
 #[test]
 fn runs(rt: HostRuntime) -> Result<(), Fail> {
     let past_end = EarlyStop::Bounds {
@@ -61,15 +71,27 @@ fn runs(rt: HostRuntime) -> Result<(), Fail> {
         lb: 0x2000_0000,
         ub: 0x2000_0003,
     };
-    let rows: [(&[u8], usize, EarlyStop, &[u8]); 9] = [
+    let rows: [(&[u8], usize, EarlyStop, &[u8]); 12] = [
         (&LAST_BYTE, 9, EarlyStop::Exit(0), &[1]),
         (&PAST_END, 9, past_end, &[]),
+        (&REX_AND_INDEX, 9, EarlyStop::Exit(0), &[7]),
         // Two bytes are put, and no instruction is left.
         (&PUT_TWICE, 9, EarlyStop::Undefined, &[7, 8]),
         // The sink has room for one.
         (&PUT_TWICE, 1, EarlyStop::WriteFault, &[7]),
         // mov byte [rax], 1, with 0 in rax
         (&[0xC6, 0x00, 0x01], 9, EarlyStop::Unmapped, &[]),
+        // mov r9d, 0xFFFFFFFF; mov byte [r9+0x2000], 1: the address is past the array, and not modulo 2^32
+        (
+            &[
+                0x41, 0xB9, 0xFF, 0xFF, 0xFF, 0xFF, 0x41, 0xC6, 0x81, 0x00, 0x20, 0x00, 0x00, 0x01,
+            ],
+            9,
+            EarlyStop::Unmapped,
+            &[],
+        ),
+        // nop, which is of another form
+        (&[0x90], 9, EarlyStop::Undefined, &[]),
         // ud2
         (&[0x0F, 0x0B], 9, EarlyStop::Undefined, &[]),
         // a `mov byte [rcx], 1` with a displacement of 0, which is not its spelling

@@ -1,78 +1,76 @@
 //! The bytes, compared with what GNU `as` makes of the same instructions.
 use super::*;
 use std::test::Fail;
+use x86_forms::valid;
+
+fn behind(base: u8, disp: i32) -> Mem {
+    Mem {
+        base: Base::Reg(Reg(base)),
+        index: None,
+        disp,
+    }
+}
 
 #[test]
 fn spells_as_the_assembler(rt: HostRuntime) -> Result<(), Fail> {
-    let far = |base, disp| EarlyMem { base, disp };
-    let rows: [(EarlyInstr, &[u8]); 11] = [
+    let bndmk = |b, base, disp| Instr::Bndmk {
+        b,
+        m: behind(base, disp),
+    };
+    let rows: [(Instr, &[u8]); 11] = [
+        (bndmk(0, 3, 0), &[0xF3, 0x0F, 0x1B, 0x03]),
         (
-            EarlyInstr::Bndmk {
-                bounds: 0,
-                mem: far(3, 0),
-            },
-            &[0xF3, 0x0F, 0x1B, 0x03],
-        ),
-        (
-            EarlyInstr::Bndmk {
-                bounds: 0,
-                mem: far(3, 4095),
-            },
+            bndmk(0, 3, 4095),
             &[0xF3, 0x0F, 0x1B, 0x83, 0xFF, 0x0F, 0x00, 0x00],
         ),
+        (bndmk(0, 3, 127), &[0xF3, 0x0F, 0x1B, 0x43, 0x7F]),
         (
-            EarlyInstr::Bndmk {
-                bounds: 0,
-                mem: far(3, 127),
-            },
-            &[0xF3, 0x0F, 0x1B, 0x43, 0x7F],
-        ),
-        (
-            EarlyInstr::Bndmk {
-                bounds: 0,
-                mem: far(3, 128),
-            },
+            bndmk(0, 3, 128),
             &[0xF3, 0x0F, 0x1B, 0x83, 0x80, 0x00, 0x00, 0x00],
         ),
+        (bndmk(2, 5, 0), &[0xF3, 0x0F, 0x1B, 0x55, 0x00]),
         (
-            EarlyInstr::Bndmk {
-                bounds: 2,
-                mem: far(5, 0),
-            },
-            &[0xF3, 0x0F, 0x1B, 0x55, 0x00],
-        ),
-        (
-            EarlyInstr::MovByte {
-                mem: far(5, -128),
-                imm: 255,
+            Instr::MovMemImm {
+                w: 8,
+                m: behind(5, -128),
+                imm: -1,
             },
             &[0xC6, 0x45, 0x80, 0xFF],
         ),
         (
-            EarlyInstr::MovByte {
-                mem: far(6, -129),
+            Instr::MovMemImm {
+                w: 8,
+                m: behind(6, -129),
                 imm: 7,
             },
             &[0xC6, 0x86, 0x7F, 0xFF, 0xFF, 0xFF, 0x07],
         ),
         (
-            EarlyInstr::Movzx {
-                reg: 4,
-                mem: far(7, 5),
+            Instr::Movzx {
+                from: 8,
+                r: Reg(4),
+                rm: Rm::Mem(behind(7, 5)),
             },
             &[0x0F, 0xB6, 0x67, 0x05],
         ),
         (
-            EarlyInstr::Bndcl { bounds: 3, reg: 4 },
+            Instr::Bndcl {
+                b: 3,
+                rm: Rm::Reg(Reg(4)),
+            },
             &[0xF3, 0x0F, 0x1A, 0xDC],
         ),
         (
-            EarlyInstr::Bndcu { bounds: 1, reg: 5 },
+            Instr::Bndcu {
+                b: 1,
+                rm: Rm::Reg(Reg(5)),
+            },
             &[0xF2, 0x0F, 0x1A, 0xCD],
         ),
         (
-            EarlyInstr::MovImm {
-                reg: 7,
+            Instr::MovImm {
+                w: 32,
+                r: Reg(7),
                 imm: 0x1003,
             },
             &[0xBF, 0x03, 0x10, 0x00, 0x00],
@@ -80,7 +78,8 @@ fn spells_as_the_assembler(rt: HostRuntime) -> Result<(), Fail> {
     ];
     for (instr, bytes) in rows {
         let mut out = Vec::new(rt.alloc());
-        push_instr(&mut out, instr)?;
+        assert!(rt; valid(&instr), "{instr:?}");
+        push_instr(&mut out, &instr)?;
         assert_eq!(rt; out.as_slice(), bytes, "{instr:?}");
     }
     Ok(())

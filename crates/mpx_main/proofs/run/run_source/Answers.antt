@@ -1,4 +1,3 @@
-use Rattle.std.proofs.Common.{◌∙◌, subst}
 use Rattle.mpx_main.proofs.Texts.{file_read}
 use Rattle.mpx_main.proofs.run.run_source.Goals as goal
 

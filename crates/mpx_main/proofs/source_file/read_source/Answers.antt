@@ -1,8 +1,7 @@
-use Rattle.std.proofs.Common.{rules, arith, ◌≡◌, ◌∙◌, ◌++◌, ℕ, List, length, take, refl, sym, ap, subst, true, false}
+use Rattle.std.proofs.Common.{arith, ◌≡◌, ◌∙◌, ◌++◌, ℕ, List, length, take, sym, ap, subst}
 use Rattle.std.proofs.lemmas.Grind.{common_steps}
 use Rattle.std.proofs.lemmas.List.{length-take-le, length-append}
-use Rattle.mx_base.specs.Outside.{Reads, FileFacts}
-use Rattle.mpx_main.specs.Sources.{IsReadFrom, IsFrontOf}
+use Rattle.mpx_main.specs.Sources.{IsReadFrom}
 use Rattle.mpx_main.proofs.Fronts.{front_ended, front_more, front_cut, chunk_fits}
 use Rattle.mpx_main.proofs.source_file.read_source.Goals as goal
 

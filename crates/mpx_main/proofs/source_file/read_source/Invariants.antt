@@ -1,4 +1,4 @@
-use Rattle.std.proofs.Common.{◌≡◌, ℕ, List, ◌+◌, ◌-◌, ◌<◌, ◌≤◌, length, vec_len}
+use Rattle.std.proofs.Common.{◌≡◌, ℕ, List, ◌+◌, ◌-◌, ◌<◌, vec_len}
 use Rattle.mpx_main.specs.Sources.{IsReadFrom}
 use Rattle.mpx_main.proofs.source_file.read_source.Given as goal
 

@@ -3,7 +3,7 @@ use Rattle.std.specs.List.{AllByRecursion}
 use Rattle.std.proofs.lemmas.Grind.{common_steps}
 use Rattle.c_reader.specs.EarlyForm.{InRange}
 use Rattle.x86_lower.specs.EarlyProgram.{bytes_of}
-use Rattle.x86_lower.proofs.EarlyRun.{bytes_run}
+use Rattle.x86_lower.proofs.EarlyBytes.{bytes_run}
 use Rattle.x86_lower.proofs.EarlyGuard.{bytes_guarded}
 use Rattle.x86_lower.proofs.early.lower_early.Goals as goal
 

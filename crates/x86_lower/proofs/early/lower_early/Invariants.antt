@@ -1,7 +1,7 @@
 use Rattle.std.proofs.Common.{◌≡◌, ◌++◌, take}
 use Rattle.std.specs.List.{flat_map, AllByRecursion}
 use Rattle.c_reader.specs.EarlyForm.{InRange}
-use Rattle.x86_forms.specs.EarlySpelling.{spelling}
+use Rattle.x86_forms.specs.Spelling.{spelling}
 use Rattle.x86_lower.specs.EarlyProgram.{bounds_code, act_code}
 use Rattle.x86_lower.proofs.early.lower_early.Given as goal
 
