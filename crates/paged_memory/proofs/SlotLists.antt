@@ -1,13 +1,14 @@
 -- Slots by page: which frame a page has, and a page that gets one.
 use Rattle.std.specs.List.{insert, find}
 use Rattle.std.specs.Option.{is_some}
-use Rattle.std.proofs.Common.{◌≡◌, ◌⊎◌, ℕ, zero, suc, ◌+◌, ◌*◌, ◌/◌, ◌%◌, ◌<◌, ◌≤◌, nat_lt, Bool, true, false, cond, not, ◌||◌, ◌==◌, Option, None, Some, List, [], ◌∷◌, length, get_or, refl, sym, ap, ◌∙◌, arith, inl, inr}
+use Rattle.std.proofs.Common.{◌≡◌, ◌≢◌, ◌⊎◌, ℕ, zero, suc, ◌+◌, ◌*◌, ◌/◌, ◌%◌, ◌<◌, ◌≤◌, nat_lt, nat_le, Bool, true, false, cond, not, ◌||◌, ◌==◌, Option, None, Some, List, [], ◌∷◌, length, get_or, refl, sym, ap, ◌∙◌, arith, inl, inr}
 use Rattle.std.proofs.lemmas.List.{length-map}
+use Rattle.std.specs.List.Sorted.{IsPartitionPoint}
 use Rattle.std.specs.Prelude.{slice_index}
-use Rattle.std.proofs.lemmas.Bool.Decides.{eqb_tells}
+use Rattle.std.proofs.lemmas.Bool.Decides.{eqb_tells, nat_tests}
 use Rattle.paged_memory.specs.declared.slots.Slot.{Slot}
 use Rattle.paged_memory.specs.Touched.{has_page, page_placed, touched_with}
-use Rattle.paged_memory.specs.Frames.{frame_in, frame_number, pages_in, slot_placed, byte_in, byte_under, IsSound, HasFrame, put_at}
+use Rattle.paged_memory.specs.Frames.{frame_in, frame_number, pages_in, slot_placed, AreByPage, byte_in, byte_under, IsSound, HasFrame, put_at}
 use Rattle.paged_memory.proofs.PageLists.{touched_with-old, touched_with-new, length-page_placed}
 use Rattle.paged_memory.proofs.PageBytes.{length-put_at, put_at_above}
 
@@ -65,6 +66,86 @@ insert_placed (s ∷ ss) n (suc i) within before here =
     let rest = insert_placed ss n i (omega arith) (λ k d below. before (suc k) d (omega arith)) (λ d below. here d (omega arith)) in
     rw (before zero s (omega arith)) (ap (λ t. s ∷ t) rest)
 
+-- ---- slots by page
+
+sorted_cons : (s : Slot) (ss : List Slot) → ((k : ℕ) (d : Slot) → k < length ss → s.page ≤ (get_or ss k d).page) → AreByPage ss → AreByPage (s ∷ ss)
+sorted_cons s ss low sorted zero zero d up within = omega arith
+sorted_cons s ss low sorted zero (suc j) d up within = low j d (omega arith)
+sorted_cons s ss low sorted (suc i) zero d up within = absurd (omega arith)
+sorted_cons s ss low sorted (suc i) (suc j) d up within = sorted i j d (omega arith) (omega arith)
+
+sorted_tail : (s : Slot) (ss : List Slot) → AreByPage (s ∷ ss) → AreByPage ss
+sorted_tail s ss sorted = λ i j d up within. sorted (suc i) (suc j) d (omega arith) (omega arith)
+
+low_first : (low : ℕ) (s : Slot) (ss : List Slot) → low ≤ s.page → ((k : ℕ) (d : Slot) → k < length ss → low ≤ (get_or ss k d).page)
+    → (k : ℕ) (d : Slot) → k < length (s ∷ ss) → low ≤ (get_or (s ∷ ss) k d).page
+low_first low s ss here rest zero d within = here
+low_first low s ss here rest (suc k) d within = rest k d (omega arith)
+
+low_placed : (low : ℕ) (n : Slot) (ss : List Slot) → low ≤ n.page → ((k : ℕ) (d : Slot) → k < length ss → low ≤ (get_or ss k d).page)
+    → (k : ℕ) (d : Slot) → k < length (slot_placed n ss) → low ≤ (get_or (slot_placed n ss) k d).page
+low_placed low n [] here rest zero d within = here
+low_placed low n [] here rest (suc k) d within = absurd (omega arith)
+low_placed low n (s ∷ ss) here rest k d within = elim (nat_lt n.page s.page) as (λ b. k < length (cond b (n ∷ s ∷ ss) (s ∷ slot_placed n ss)) → low ≤ (get_or (cond b (n ∷ s ∷ ss) (s ∷ slot_placed n ss)) k d).page) [
+  | true ↦ low_first low n (s ∷ ss) here rest k d
+  | false ↦ low_first low s (slot_placed n ss) (rest zero d (omega arith)) (low_placed low n ss here (λ j e below. rest (suc j) e (omega arith))) k d
+] within
+
+sorted_placed : (n : Slot) (slots : List Slot) → AreByPage slots → AreByPage (slot_placed n slots)
+sorted_placed n [] sorted = sorted_cons n [] (λ k d within. absurd (omega arith)) sorted
+sorted_placed n (s ∷ ss) sorted = elim (nat_lt n.page s.page) as (λ b. nat_lt n.page s.page ≡ b → AreByPage (cond b (n ∷ s ∷ ss) (s ∷ slot_placed n ss))) [
+  | true ↦ λ e. let below : n.page < s.page = grind (arith, nat_tests) in
+      sorted_cons n (s ∷ ss) (λ k d within. let up = sorted zero k d (omega arith) within in omega (arith, up, below)) sorted
+  | false ↦ λ e. let from : s.page ≤ n.page = grind (arith, nat_tests) in
+      sorted_cons s (slot_placed n ss) (low_placed s.page n ss from (λ k d within. sorted zero (suc k) d (omega arith) (omega arith))) (sorted_placed n ss (sorted_tail s ss sorted))
+] refl
+
+-- ---- where a page stands among slots
+
+pub not_before : (a b : ℕ) → nat_le b a ≡ true → nat_lt a b ≡ false
+not_before a b h = grind (arith, nat_tests)
+
+pub is_before : (a b : ℕ) → nat_le b a ≡ false → nat_lt a b ≡ true
+is_before a b h = grind (arith, nat_tests)
+
+pub lower_page : (a b : ℕ) → nat_lt a b ≡ true → a ≢ b
+lower_page a b h = λ e. let low : a < b = grind (arith, nat_tests) in absurd (omega arith)
+
+pub least_page : (a b : ℕ) → nat_lt a b ≡ false → b ≤ a
+least_page a b h = grind (arith, nat_tests)
+
+frame_past : (s : Slot) (ss : List Slot) (page : ℕ) → s.page ≢ page → frame_in (s ∷ ss) page ≡ frame_in ss page
+frame_past s ss page other = elim (eqb_tells s.page page) [ inl e ↦ absurd (other e.1) | inr e ↦ rw e.0 refl ]
+
+frame_at : (slots : List Slot) (page i : ℕ) (d : Slot) → ((k : ℕ) (e : Slot) → k < i → (get_or slots k e).page ≢ page) → i < length slots → (get_or slots i d).page ≡ page
+    → frame_in slots page ≡ Some (get_or slots i d).frame
+frame_at [] page i d before within here = absurd (omega arith)
+frame_at (t ∷ ts) page zero d before within here = elim (eqb_tells t.page page) [ inl e ↦ rw e.0 refl | inr e ↦ absurd (e.1 here) ]
+frame_at (t ∷ ts) page (suc i) d before within here =
+    frame_past t ts page (before zero t (omega arith)) ∙ frame_at ts page i d (λ k e below. before (suc k) e (omega arith)) (omega arith) here
+
+no_frame : (slots : List Slot) (page : ℕ) → ((k : ℕ) (d : Slot) → k < length slots → (get_or slots k d).page ≢ page) → frame_in slots page ≡ None
+no_frame [] page all = refl
+no_frame (t ∷ ts) page all = frame_past t ts page (all zero t (omega arith)) ∙ no_frame ts page (λ k d below. all (suc k) d (omega arith))
+
+-- the frame of the first slot whose page is no lower, if that is the page
+pub frame_found : (slots : List Slot) (page at : ℕ) (d : Slot) → IsPartitionPoint (λ s. nat_lt s.page page ≡ true) (λ s. nat_lt s.page page ≡ false) slots at → at < length slots → (get_or slots at d).page ≡ page
+    → frame_in slots page ≡ Some (get_or slots at d).frame
+frame_found slots page at d point within here = frame_at slots page at d (λ k e below. lower_page (get_or slots k e).page page (point.0 k e (omega arith) below)) within here
+
+no_frame_above : (slots : List Slot) (page at k : ℕ) (d : Slot) → AreByPage slots → nat_lt (get_or slots at d).page page ≡ false → (get_or slots at d).page ≢ page → at ≤ k → k < length slots → (get_or slots k d).page ≢ page
+no_frame_above slots page at k d sorted least other from within =
+    let low = least_page (get_or slots at d).page page least in
+    let up = sorted at k d from within in
+    λ e. absurd (omega (arith, low, up, other, e))
+
+pub no_frame_found : (slots : List Slot) (page at : ℕ) → AreByPage slots → IsPartitionPoint (λ s. nat_lt s.page page ≡ true) (λ s. nat_lt s.page page ≡ false) slots at
+    → ((d : Slot) → at < length slots → (get_or slots at d).page ≢ page) → frame_in slots page ≡ None
+no_frame_found slots page at sorted point other = no_frame slots page (λ k d within. elim (nat_lt k at) as (λ b. nat_lt k at ≡ b → (get_or slots k d).page ≢ page) [
+  | true ↦ λ e. lower_page (get_or slots k d).page page (point.0 k d (omega arith) (let below : k < at = grind (arith, nat_tests) in below))
+  | false ↦ λ e. let from = least_page k at e in no_frame_above slots page at k d sorted (point.1 at d (omega arith) (omega (arith, from))) (other d (omega (arith, from))) from within
+] refl)
+
 -- ---- a page that gets the next frame
 
 some_of : (n : Slot) (p f : ℕ) (o : Option ℕ) → cond (n.page == p) (Some n.frame) o ≡ Some f → ((n.page ≡ p) × (n.frame ≡ f)) ⊎ (o ≡ Some f)
@@ -82,6 +163,7 @@ sound_placed slots n next away frames capacity sound few =
       room = sound.room;
       few = few;
       fits = sound.fits;
+      sorted = sorted_placed n slots sound.sorted;
       below = λ p f found. elim (some_of n p f (frame_in slots p) (sym (frame_in-slot_placed n slots p away) ∙ found)) [
         | inl new ↦ (let same = new.1 in omega (arith, same, long, next))
         | inr old ↦ (let low = sound.below p f old in omega (arith, low, long))
@@ -165,6 +247,7 @@ sound_put slots frames capacity at bytes within sound =
       room = length-put_at frames bytes at fits ∙ sound.room;
       few = sound.few;
       fits = sound.fits;
+      sorted = sound.sorted;
       below = sound.below;
       apart = sound.apart;
       clean = λ i above. put_at_above frames bytes at i fits (omega arith) ∙ sound.clean i above;

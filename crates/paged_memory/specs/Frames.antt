@@ -1,6 +1,7 @@
 -- How pages and their frames stand for a memory. All but the last definitions speak of any one-to-one map from pages to frames.
 use Rattle.std.specs.Prelude.{◌≡◌, ℕ, ◌+◌, ◌*◌, ◌/◌, ◌%◌, ◌<◌, ◌≤◌, nat_lt, ◌==◌, if◌then◌else◌, List, [], ◌∷◌, ◌++◌, length, Option, Some, None, slice_index, map, take, drop, slice_range}
 use Rattle.std.specs.List.{find}
+use Rattle.std.specs.List.Sorted.{IsNonDecreasingBy}
 use Rattle.paged_memory.specs.declared.slots.Slot.{Slot}
 use Rattle.mx_base.specs.Memory.{Bytes}
 use Rattle.paged_memory.specs.Touched.{touched_with}
@@ -36,6 +37,10 @@ frame_number (Some s) = Some s.frame
 abbrev pub frame_in : List Slot → ℕ → Option ℕ
 frame_in slots page = frame_number (find (λ s. s.page == page) slots)
 
+-- slots in the order of their pages
+abbrev pub AreByPage : List Slot → Type 0
+AreByPage slots = IsNonDecreasingBy (λ s. s.page) slots
+
 abbrev pub pages_in : List Slot → List ℕ
 pages_in slots = map (λ s. s.page) slots
 
@@ -44,11 +49,12 @@ abbrev pub slot_placed : Slot → List Slot → List Slot
 slot_placed n [] = n ∷ []
 slot_placed n (s ∷ ss) = if nat_lt n.page s.page then n ∷ s ∷ ss else s ∷ slot_placed n ss
 
--- no two pages share a frame, and frames that no page has are zeros
+-- slots stand by page, no two pages share a frame, and frames that no page has are zeros
 pub record IsSound (slots : List Slot) (frames : List ℕ) (capacity : ℕ) : Type 0 where
   pub room : length frames ≡ capacity * 4096
   pub few : length slots ≤ capacity
   pub fits : capacity ≤ 524288
+  pub sorted : AreByPage slots
   pub below : (p f : ℕ) → frame_in slots p ≡ Some f → f < length slots
   pub apart : IsOneToOne (frame_in slots)
   pub clean : (i : ℕ) → length slots * 4096 ≤ i → slice_index frames i ≡ 0

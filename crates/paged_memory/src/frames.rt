@@ -2,7 +2,7 @@
 ghost use Rattle.std.specs.Prelude.{◌≡◌, ℕ, ◌+◌, ◌*◌, ◌/◌, ◌%◌, ◌^◌, ◌<◌, ◌≤◌, length, replicate, Some, vec_capacity};
 ghost use Rattle.mx_base.specs.Memory.{list_at, with_list};
 ghost use Rattle.paged_memory.specs.Touched.{touched_with, touched_by};
-ghost use Rattle.paged_memory.specs.Frames.{byte_under, frame_in, pages_in, LieWithin, IsSound, put_at};
+ghost use Rattle.paged_memory.specs.Frames.{byte_under, frame_in, pages_in, AreByPage, LieWithin, IsSound, put_at};
 
 use crate::slots::{Slot, frame_for, frame_of, piece};
 
@@ -16,6 +16,7 @@ fn clear(buf: &mut [u8])
 
 /// Copies bytes that lie in one page.
 fn copy_page(slots: &[Slot], frames: &[u8], a: u64, buf: &mut [u8])
+    requires sorted { AreByPage slots.now }
     requires within { LieWithin (frame_in slots.now) frames.now }
     requires inside { a % 4096 + length buf.old ≤ 4096 }
     ensures { buf.new ≡ list_at (length buf.old) (byte_under (frame_in slots.now) frames.now) a }
@@ -31,6 +32,7 @@ fn copy_page(slots: &[Slot], frames: &[u8], a: u64, buf: &mut [u8])
 
 /// Copies the bytes from a on, which lie in no more than two pages.
 pub fn copy_out(slots: &[Slot], frames: &[u8], a: u64, buf: &mut [u8])
+    requires sorted { AreByPage slots.now }
     requires within { LieWithin (frame_in slots.now) frames.now }
     requires few { length buf.old ≤ 4096 }
     requires fits { a + length buf.old < 2 ^ 64 }

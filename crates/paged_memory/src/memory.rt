@@ -173,6 +173,7 @@ impl Memory {
 #[cfg(test)]
 mod tests {
     use super::*;
+    use std::process::Abort;
     use std::test::Fail;
 
     #[test]
@@ -196,6 +197,55 @@ mod tests {
             assert_eq!(rt; m.load(a, 8), Ok(0x8877_66bb_aa33_2211), "{a}");
         }
         assert_eq!(rt; m.touched(), 4);
+        Ok(())
+    }
+
+    /// Stores `n` bytes and loads them again, or neither.
+    fn judge(rt: &impl Abort, m: &mut Memory, a: u64, n: u8, want: Result<u64, MemStop>)
+        requires { IsTrue (is_width n) }
+    {
+        let stored = m.store(a, n, 0x8877_6655_4433_2211);
+        assert_eq!(rt; stored.err(), want.err(), "{n} at {a}");
+        assert_eq!(rt; m.load(a, n), want, "{n} at {a}");
+    }
+
+    /// Judges each place round a page's edge, and round the end and the start of a region.
+    fn judge_edges(rt: &impl Abort, m: &mut Memory, n: u8, low: u64)
+        requires { IsTrue (is_width n) }
+    {
+        let size = n as u64;
+        for back in 0..10u64 {
+            let a = 0x2000_1000 + size * 0x10_0000 + back * 0x2000 - back;
+            let pages = if back == 0 || size <= back { 1 } else { 2 };
+            let before = m.touched() as u64;
+            judge(rt, m, a, n, Ok(low));
+            let around = (m.touched() as u64, m.load(a - 1, 1), m.load(a + size, 1));
+            assert_eq!(rt; around, (before + pages, Ok(0), Ok(0)), "{n} at {a}");
+            let past = Err(MemStop::Unmapped(0x2100_0000));
+            judge(
+                rt,
+                m,
+                0x2100_0000 - back,
+                n,
+                if size <= back { Ok(low) } else { past },
+            );
+            let first = 0x3000_0000 - back;
+            let low = if back == 0 {
+                Ok(low)
+            } else {
+                Err(MemStop::Unmapped(first))
+            };
+            judge(rt, m, first, n, low);
+        }
+    }
+
+    #[test]
+    fn every_width_stands_at_every_place_round_an_edge(rt: HostRuntime) -> Result<(), Fail> {
+        let mut m = Memory::make(rt.alloc(), 100)?;
+        judge_edges(&rt, &mut m, 1, 0x11);
+        judge_edges(&rt, &mut m, 2, 0x2211);
+        judge_edges(&rt, &mut m, 4, 0x4433_2211);
+        judge_edges(&rt, &mut m, 8, 0x8877_6655_4433_2211);
         Ok(())
     }
 
@@ -247,6 +297,15 @@ mod tests {
         assert_eq!(rt; m.load(0x2000_0ff8, 8), Ok(5));
         assert_eq!(rt; m.in_use(), 1);
         assert_eq!(rt; m.capacity(), 1);
+        let mut m = Memory::make(rt.alloc(), 3)?;
+        let full = MemStop::NoFrames {
+            in_use: 2,
+            capacity: 3,
+        };
+        assert_eq!(rt; m.write(0x3000_0fff, b"ab"), Ok(()));
+        assert_eq!(rt; m.write(0x5000_0fff, b"ab"), Err(full));
+        assert_eq!(rt; m.write(0x3000_1fff, b"ab"), Ok(()));
+        assert_eq!(rt; m.in_use(), 3);
         Ok(())
     }
 

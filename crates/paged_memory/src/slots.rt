@@ -2,7 +2,7 @@
 ghost use Rattle.std.specs.Prelude.{◌≡◌, ℕ, ◌+◌, ◌*◌, ◌%◌, ◌^◌, ◌<◌, ◌≤◌, length, slice_index_or, nat_lt, true, false, None, vec_len, vec_capacity};
 ghost use Rattle.paged_memory.specs.declared.slots.Slot.{Slot as PageSlot};
 ghost use Rattle.paged_memory.specs.Touched.{touched_with, touched_by};
-ghost use Rattle.paged_memory.specs.Frames.{frame_in, pages_in, slot_placed, HasFrame};
+ghost use Rattle.paged_memory.specs.Frames.{frame_in, pages_in, slot_placed, AreByPage, HasFrame};
 
 /// A page, and the number of its frame.
 #[derive(Clone, Copy)]
@@ -13,29 +13,31 @@ pub struct Slot {
 
 /// The frame of a page, if it has one.
 pub fn frame_of(slots: &[Slot], page: u64) -> Option<u32>
+    requires { AreByPage slots.now }
     ensures { result ≡ frame_in slots.now page }
 {
-    slots.iter().find(|s| s.page == page).map(|s| s.frame)
+    let at = slots.partition_point(|s| s.page < page);
+    if at < slots.len() && slots[at].page == page {
+        return Some(slots[at].frame);
+    }
+    None
 }
 
 /// How many slots stand before the first one with a higher page.
 fn place_of(slots: &[Slot], page: u64) -> usize
+    requires { AreByPage slots.now }
     ensures within { result ≤ length slots.now }
     ensures before { (k : ℕ) (d : PageSlot) → k < result → nat_lt page (slice_index_or slots.now k d).page ≡ false }
     ensures here { (d : PageSlot) → result < length slots.now → nat_lt page (slice_index_or slots.now result d).page ≡ true }
 {
-    for (i, s) in slots.iter().enumerate() {
-        if page < s.page {
-            return i;
-        }
-    }
-    slots.len()
+    slots.partition_point(|s| s.page <= page)
 }
 
 /// Gives a page the next frame.
 fn touch(slots: &mut Vec<Slot>, page: u64)
     requires room { length slots.old.items < vec_capacity slots.old }
     requires few { length slots.old.items < 524288 }
+    requires sorted { AreByPage slots.old.items }
     ensures items { slots.new.items ≡ slot_placed record { page = page; frame = length slots.old.items } slots.old.items }
     ensures reserved { vec_capacity slots.old ≤ vec_capacity slots.new }
 {
@@ -51,6 +53,7 @@ fn touch(slots: &mut Vec<Slot>, page: u64)
 pub fn frame_for(slots: &mut Vec<Slot>, page: u64) -> u32
     requires room { length (touched_with page (pages_in slots.old.items)) ≤ vec_capacity slots.old }
     requires few { length (touched_with page (pages_in slots.old.items)) ≤ 524288 }
+    requires sorted { AreByPage slots.old.items }
     ensures frame { HasFrame slots.old.items slots.new.items page result }
     ensures reserved { vec_capacity slots.old ≤ vec_capacity slots.new }
 {
@@ -78,6 +81,7 @@ pub fn piece(a: u64, n: usize) -> usize
 /// How many frames more the pages of n bytes from a on need.
 pub fn missing(slots: &[Slot], a: u64, n: usize) -> usize
     requires fits { a + n < 2 ^ 64 }
+    requires sorted { AreByPage slots.now }
     ensures { length (pages_in slots.now) + result ≡ length (touched_by n a (pages_in slots.now)) }
 {
     let mut need = 0;
