@@ -5,6 +5,7 @@ use Rattle.mx_base.specs.Heap.{Range, range_end, first_fit, behind, taken_from, 
 use Rattle.guest_services.specs.declared.blocks.Block.{Block}
 use Rattle.guest_services.specs.Blocks.{range_of, free_among, live_among, starts_live, IsTiled, live_block, free_block, is_fit, split, given, is_live_at, joined, given_up, joined_at, total_size}
 use Rattle.std.specs.List.{insert, remove}
+use Rattle.std.specs.List.Sorted.{IsNonDecreasingBy, IsPartitionPoint}
 use Rattle.std.proofs.Common.{set}
 use Rattle.mx_base.specs.Regions.{heap_region}
 
@@ -420,6 +421,60 @@ given_up_later a at (c ∷ cs) (suc i) b tiled before within is here =
     let rest = given_up_later a (at + c.size) cs i b tiled.3 (λ k d below. before (suc k) d (omega arith)) (omega arith) is here in
     rw (before zero c (omega arith))
     (ap (λ t. c ∷ t) rest ∙ sym (joined-same c (given_up a cs) (λ free. starts_given_up a cs c (omega arith) (before 1 c (omega arith)) (tiled.2 free))))
+
+-- ---- blocks by address
+
+tiled_from : (at : ℕ) (bs : List Block) (k : ℕ) (d : Block) → IsTiled at bs → k < length bs → at ≤ (get_or bs k d).at
+tiled_from at [] k d tiled within = absurd (omega arith)
+tiled_from at (b ∷ bs) zero d tiled within = let start = tiled.0 in omega (arith, start)
+tiled_from at (b ∷ bs) (suc k) d tiled within = let rest = tiled_from (at + b.size) bs k d tiled.3 (omega arith) in omega (arith, rest)
+
+tiled_rises : (at : ℕ) (bs : List Block) (i j : ℕ) (d : Block) → IsTiled at bs → i < j → j < length bs → (get_or bs i d).at < (get_or bs j d).at
+tiled_rises at [] i j d tiled up within = absurd (omega arith)
+tiled_rises at (b ∷ bs) i zero d tiled up within = absurd (omega arith)
+tiled_rises at (b ∷ bs) zero (suc j) d tiled up within =
+    let start = tiled.0 in
+    let some = tiled.1 in
+    let rest = tiled_from (at + b.size) bs j d tiled.3 (omega arith) in
+    omega (arith, start, some, rest)
+tiled_rises at (b ∷ bs) (suc i) (suc j) d tiled up within = tiled_rises (at + b.size) bs i j d tiled.3 (omega arith) (omega arith)
+
+pub tiled_sorted : (at : ℕ) (bs : List Block) → IsTiled at bs → IsNonDecreasingBy (λ b. b.at) bs
+tiled_sorted at bs tiled = λ i j d up within. elim (nat_lt i j) as (λ b. nat_lt i j ≡ b → (get_or bs i d).at ≤ (get_or bs j d).at) [
+  | true ↦ λ e. let before : i < j = grind (arith, nat_tests) in let rises = tiled_rises at bs i j d tiled before within in omega (arith, rises)
+  | false ↦ λ e. let from : j ≤ i = grind (arith, nat_tests) in let same : i ≡ j = omega arith in subst (λ (k : ℕ). (get_or bs i d).at ≤ (get_or bs k d).at) same (omega arith)
+] refl
+
+not_live_at-step : (live : Bool) (at a : ℕ) → at ≢ a → (live && at == a) ≡ false
+not_live_at-step true at a other = differs at a other
+not_live_at-step false at a other = refl
+
+pub other_start : (a : ℕ) (b : Block) → b.at ≢ a → is_live_at a b ≡ false
+other_start a b other = not_live_at-step b.live b.at a other
+
+pub free_here : (a : ℕ) (b : Block) → b.live ≡ false → is_live_at a b ≡ false
+free_here a b free = rw free refl
+
+pub none_live_before : (bs : List Block) (a i k : ℕ) (d : Block) → IsPartitionPoint (λ b. nat_lt b.at a ≡ true) (λ b. nat_lt b.at a ≡ false) bs i → k < i → is_live_at a (get_or bs k d) ≡ false
+none_live_before bs a i k d point before =
+    let tells = point.0 k d (omega arith) before in
+    other_start a (get_or bs k d) (λ e. let low : (get_or bs k d).at < a = grind (arith, nat_tests) in absurd (omega arith))
+
+none_live_behind : (at : ℕ) (bs : List Block) (a i k : ℕ) (d : Block) → IsTiled at bs → nat_lt (get_or bs i d).at a ≡ false → i < k → k < length bs → is_live_at a (get_or bs k d) ≡ false
+none_live_behind at bs a i k d tiled least behind within =
+    let rises = tiled_rises at bs i k d tiled behind within in
+    let from : a ≤ (get_or bs i d).at = grind (arith, nat_tests) in
+    other_start a (get_or bs k d) (λ e. absurd (omega (arith, rises, from, e)))
+
+pub none_live : (at : ℕ) (bs : List Block) (a i : ℕ) → IsTiled at bs → IsPartitionPoint (λ b. nat_lt b.at a ≡ true) (λ b. nat_lt b.at a ≡ false) bs i → ((d : Block) → i < length bs → is_live_at a (get_or bs i d) ≡ false)
+    → (k : ℕ) (d : Block) → k < length bs → is_live_at a (get_or bs k d) ≡ false
+none_live at bs a i tiled point here k d within = elim (nat_lt k i) as (λ b. nat_lt k i ≡ b → is_live_at a (get_or bs k d) ≡ false) [
+  | true ↦ λ e. none_live_before bs a i k d point (let before : k < i = grind (arith, nat_tests) in before)
+  | false ↦ λ e. let from : i ≤ k = grind (arith, nat_tests) in elim (eqb_tells i k) [
+    | inl s ↦ subst (λ (j : ℕ). is_live_at a (get_or bs j d) ≡ false) s.1 (here d (let same = s.1 in omega (arith, same)))
+    | inr s ↦ (let other = s.1 in none_live_behind at bs a i k d tiled (point.1 i d (omega arith) (omega (arith, from))) (omega (arith, from, other)) within)
+  ]
+] refl
 
 -- ---- sizes and places
 

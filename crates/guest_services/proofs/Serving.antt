@@ -1,6 +1,6 @@
 -- What each service means, and what a call that does it answers and leaves.
 use Rattle.std.specs.Fmt.{signed_decimal}
-use Rattle.std.proofs.Common.{◌≡◌, ◌≢◌, ℕ, ◌%◌, true, false, ◌==◌, Option, None, Some, Result, Ok, Err, List, [], ◌∷◌, ◌++◌, refl, sym, ap, subst, inl, inr}
+use Rattle.std.proofs.Common.{◌≡◌, ◌≢◌, ℕ, ◌<◌, ◌%◌, length, true, false, ◌==◌, Option, None, Some, Result, Ok, Err, List, [], ◌∷◌, ◌++◌, refl, sym, ap, subst, inl, inr}
 use Rattle.std.proofs.lemmas.Bool.Decides.{eqb_tells}
 use Rattle.mx_base.specs.Regions.{is_readable}
 use Rattle.mx_base.specs.Memory.{Bytes, list_at, first_refused_around}
@@ -106,10 +106,10 @@ pub answers : (want : Served ℕ) (word v : ℕ) (h : Heap) (left held held' : O
 answers want word v h left held held' input bytes e is may adds =
     subst (λ (w : Served ℕ). Ends w (around h left held) (around h left held') (Value v)) (sym e) (is, record { heap = refl; input = kept_input left input may; out = adds })
 
-pub faults : (want : Served ℕ) (word : ℕ) (h : Heap) (left held held' : Option (List ℕ)) (input bytes : List ℕ) → want ≡ Answers word (guest h input bytes) → AddsFront held held' bytes
+pub faults : (want : Served ℕ) (word : ℕ) (h : Heap) (left held held' : Option (List ℕ)) (input bytes : List ℕ) → want ≡ Answers word (guest h input bytes) → 0 < length bytes → AddsFront held held' bytes
     → Ends want (around h left held) (around h left held') WriteFault
-faults want word h left held held' input bytes e adds =
-    subst (λ (w : Served ℕ). Ends w (around h left held) (around h left held') WriteFault) (sym e) record { heap = refl; input = refl; out = adds }
+faults want word h left held held' input bytes e some adds =
+    subst (λ (w : Served ℕ). Ends w (around h left held) (around h left held') WriteFault) (sym e) record { some = some; heap = refl; input = refl; out = adds }
 
 stays : (h : Heap) (left held : Option (List ℕ)) → Stays (around h left held) (around h left held)
 stays h left held = record { heap = refl; input = refl; out = Adds-none held }
@@ -144,7 +144,7 @@ frees_nothing m a b c h h' input left held is kept may =
 pub puts : {E : Type 0} (want : Served ℕ) (h : Heap) (left held held' : Option (List ℕ)) (f f' : ℕ) (input bytes : List ℕ) (r : Result (Unit {0}) E) → want ≡ Answers 0 (guest h input bytes) → MayTell left input
     → PutsAll held held' f f' bytes r → Ends want (around h left held) (around h left held') (put_served r)
 puts want h left held held' f f' input bytes (Ok done) e may put = answers want 0 0 h left held held' input bytes e refl may put.0
-puts want h left held held' f f' input bytes (Err x) e may put = faults want 0 h left held held' input bytes e put.0
+puts want h left held held' f f' input bytes (Err x) e may put = faults want 0 h left held held' input bytes e put.0 put.1
 
 pub gets : (m : Bytes) (a b c x : ℕ) (h : Heap) (rest : List ℕ) (left left' held : Option (List ℕ)) → Leaves left left' rest → Ends (meant m 0x1004 a b c h (x ∷ rest)) (around h left held) (around h left' held) (Value x)
 gets m a b c x h rest left left' held leaves =

@@ -1,5 +1,5 @@
 -- What a sink holds after several pieces.
-use Rattle.std.proofs.Common.{◌≡◌, ℕ, zero, suc, ◌+◌, ◌-◌, ◌≤◌, Bool, true, false, cond, Option, None, Some, List, [], ◌++◌, take, drop, refl, sym, ap, ◌∙◌, subst, append_assoc, append-nil, arith}
+use Rattle.std.proofs.Common.{◌≡◌, ℕ, zero, suc, ◌+◌, ◌-◌, ◌<◌, ◌≤◌, length, length-append, Bool, true, false, cond, Option, None, Some, List, [], ◌++◌, take, drop, refl, sym, ap, ◌∙◌, subst, append_assoc, append-nil, arith}
 use Rattle.std.proofs.lemmas.List.{take-append-drop, take-take, drop-take}
 use Rattle.std.proofs.Common.{Result, Ok, Err}
 use Rattle.guest_services.specs.Streams.{PutsAll}
@@ -89,7 +89,13 @@ refused_part test (suc n) a (suc at) (suc k) e fits =
     let there : a + suc at ≡ a + 1 + at = omega arith in
     ap (first_refused test (suc k)) there ∙ refused_part test n (a + 1) at (suc k) (refused_tail (test a) (first_refused test n (a + 1)) a e) (omega arith)
 
+more_than : (x y : List ℕ) → 0 < length y → 0 < length (x ++ y)
+more_than x y some = let long = length-append x y in omega (arith, long, some)
+
+pub some_front : (x y : List ℕ) → 0 < length x → 0 < length (x ++ y)
+some_front x y some = let long = length-append x y in omega (arith, long, some)
+
 -- two pieces, the second after the first
 pub puts_then : {E : Type 0} (a b c : Option (List ℕ)) (f f' f'' : ℕ) (x y : List ℕ) (r : Result (Unit {0}) E) → Adds a b x → f' ≡ f → PutsAll b c f' f'' y r → PutsAll a c f f'' (x ++ y) r
 puts_then a b c f f' f'' x y (Ok done) adds same put = (Adds-then a b c x y adds put.0, put.1 ∙ same)
-puts_then a b c f f' f'' x y (Err e) adds same put = (front_then a b c x y adds put.0, risen_from f f' f'' same put.1)
+puts_then a b c f f' f'' x y (Err e) adds same put = (more_than x y put.0, front_then a b c x y adds put.1, risen_from f f' f'' same put.2)

@@ -1,5 +1,5 @@
 -- What a call of a service answers and leaves.
-use Rattle.std.specs.Prelude.{◌≡◌, ℕ, Option, List, [], Result, Ok, Err}
+use Rattle.std.specs.Prelude.{◌≡◌, ℕ, ◌<◌, length, Option, List, [], Result, Ok, Err}
 use Rattle.mx_base.specs.Regions.{is_readable}
 use Rattle.mx_base.specs.Memory.{Bytes, first_refused_around}
 use Rattle.mx_base.specs.Heap.{Heap}
@@ -32,8 +32,9 @@ pub record Stays (old new : Around) : Type 0 where
   pub input : new.left ≡ old.left
   pub out : Adds old.held new.held []
 
--- a front of the guest's output was put
+-- the guest has bytes to put, and a front of them was put
 pub record PutsFront (old new : Around) (g : Guest) : Type 0 where
+  pub some : 0 < length g.out
   pub heap : new.heap ≡ old.heap
   pub input : new.left ≡ old.left
   pub out : AddsFront old.held new.held g.out

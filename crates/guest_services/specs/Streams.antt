@@ -1,11 +1,11 @@
 -- What is put into a sink whole, and taken from a source a byte at a time.
-use Rattle.std.specs.Prelude.{◌≡◌, ℕ, Option, None, Some, Result, Ok, Err, List, [], ◌∷◌}
+use Rattle.std.specs.Prelude.{◌≡◌, ℕ, ◌<◌, length, Option, None, Some, Result, Ok, Err, List, [], ◌∷◌}
 use Rattle.mx_base.specs.Outside.{Adds, AddsFront, HasRisen}
 
--- what putting bytes leaves in a sink, and in its count of faults
+-- what putting bytes leaves in a sink, and in its count of faults: only where there are bytes to put can it fail
 abbrev pub PutsAll : {E : Type 0} → Option (List ℕ) → Option (List ℕ) → ℕ → ℕ → List ℕ → Result (Unit {0}) E → Type 0
 PutsAll held held' faults faults' bytes (Ok done) = Adds held held' bytes × (faults' ≡ faults)
-PutsAll held held' faults faults' bytes (Err e) = AddsFront held held' bytes × HasRisen faults faults'
+PutsAll held held' faults faults' bytes (Err e) = (0 < length bytes) × AddsFront held held' bytes × HasRisen faults faults'
 
 -- nothing that is told speaks against these bytes
 abbrev pub MayTell : Option (List ℕ) → List ℕ → Type 0

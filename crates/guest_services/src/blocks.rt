@@ -27,14 +27,14 @@ pub fn first_fit(blocks: &[Block], n: u64) -> usize
 
 /// The place of the live block at an address; the number of blocks if there is none.
 pub fn live_at(blocks: &[Block], a: u64) -> usize
+    requires { IsTiled 0x3000_0000 blocks.now }
     ensures within { result ≤ length blocks.now }
     ensures before { (k : ℕ) (d : HeapBlock) → k < result → is_live_at a (slice_index_or blocks.now k d) ≡ false }
     ensures here { (d : HeapBlock) → result < length blocks.now → is_live_at a (slice_index_or blocks.now result d) ≡ true }
 {
-    for (i, b) in blocks.iter().enumerate() {
-        if b.live && b.at == a {
-            return i;
-        }
+    let at = blocks.partition_point(|b| b.at < a);
+    if at < blocks.len() && blocks[at].live && blocks[at].at == a {
+        return at;
     }
     blocks.len()
 }

@@ -1,5 +1,5 @@
 //! The services.
-ghost use Rattle.std.specs.Prelude.{◌≡◌, ℕ, Option, List, slice_index};
+ghost use Rattle.std.specs.Prelude.{◌≡◌, ◌≢◌, ◌⊎◌, ℕ, Option, List, slice_index};
 ghost use Rattle.mx_base.specs.Heap.{Heap as HeapLists};
 ghost use Rattle.guest_services.specs.Streams.{MayTell};
 ghost use Rattle.paged_memory.specs.Paged.{bytes_of};
@@ -33,6 +33,7 @@ fn write<O: Sink>(m: &Memory, descriptor: u64, from: u64, n: u64, out: &mut O) -
     ensures answer { (heap : HeapLists) (left : Option (List ℕ)) (input : List ℕ) → MayTell left input → Ends (meant (bytes_of m.now) 1 descriptor from n heap input) record { heap = heap; left = left; held = O.held out.old } record { heap = heap; left = left; held = O.held out.new } result }
     ensures writes { CountsWrites result (O.faults out.old) (O.faults out.new) }
     ensures reads { (faults : ℕ) → CountsReads result faults faults }
+    ensures takes_nothing { result ≢ Served.ReadFault }
 {
     if descriptor != 1 {
         return Served::Value(u64::MAX - 8);
@@ -51,7 +52,8 @@ fn write<O: Sink>(m: &Memory, descriptor: u64, from: u64, n: u64, out: &mut O) -
 
 /// What a call that only puts something answers.
 fn put_answer(put: Result<(), Failed>) -> Served
-    ensures { result ≡ put_served put }
+    ensures answer { result ≡ put_served put }
+    ensures takes_nothing { result ≢ Served.ReadFault }
 {
     match put {
         Ok(()) => Served::Value(0),
@@ -60,7 +62,9 @@ fn put_answer(put: Result<(), Failed>) -> Served
 }
 
 /// Calls the service of a number with three words. The bytes of a write are judged before any is written; the caller has
-/// judged by its own rules before. `ReadFault` and `WriteFault` come only where the count of faults rose in this call.
+/// judged by its own rules before. `ReadFault` comes only of a get, and only where the input's count of faults rose in this
+/// call; it changes nothing. `WriteFault` comes only of a write, a print or a put, and only where the output's count rose; it
+/// leaves heap and input, and a front of the bytes was put. No other answer changes a count.
 pub fn call<I: Source, O: Sink>(
     heap: &mut Heap,
     m: &Memory,
@@ -72,6 +76,8 @@ pub fn call<I: Source, O: Sink>(
     ensures answer { Calls (meant (bytes_of m.now) number (slice_index args 0) (slice_index args 1) (slice_index args 2) heap.old) record { heap = heap.old; left = I.left input.old; held = O.held out.old } record { heap = heap.new; left = I.left input.new; held = O.held out.new } result }
     ensures reads { CountsReads result (I.faults input.old) (I.faults input.new) }
     ensures writes { CountsWrites result (O.faults out.old) (O.faults out.new) }
+    ensures read_fault { result ≡ Served.ReadFault → number ≡ 0x1004 }
+    ensures write_fault { result ≡ Served.WriteFault → (number ≡ 1) ⊎ (number ≡ 0x1002) ⊎ (number ≡ 0x1003) }
 {
     match number {
         1 => write(m, args[0], args[1], args[2], out),

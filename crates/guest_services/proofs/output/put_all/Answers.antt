@@ -7,6 +7,7 @@ use Rattle.guest_services.proofs.output.put_all.Goals as goal
 
 pub returns-in-Err : goal.returns-in-Err
 returns-in-Err g c = (
+  (let below = c.loop-at-test.true in omega (arith, below)),
   front_more (g.O.Sink.held c.args.out.now) (g.O.Sink.held c.loop-at.out) (g.O.Sink.held c.put.new.self) c.args.bytes.now c.loop-at.at c.loop-at.invariant.sent c.in-Err.ensures.answer,
   risen_from (g.O.Sink.faults c.args.out.now) (g.O.Sink.faults c.loop-at.out) (g.O.Sink.faults c.put.new.self) c.loop-at.invariant.no_fault c.in-Err.ensures.faults,
 )

@@ -6,7 +6,7 @@ use Rattle.mx_base.specs.Memory.{list_at}
 use Rattle.paged_memory.specs.Paged.{bytes_of}
 use Rattle.paged_memory.specs.Answers.{read_answer}
 use Rattle.paged_memory.proofs.Answered.{read_allowed}
-use Rattle.paged_memory.proofs.PageBytes.{list_at-none}
+use Rattle.paged_memory.proofs.PageBytes.{list_at-none, length-list_at}
 use Rattle.guest_services.proofs.Sinks.{Adds-none, bytes_more, bytes_front, risen_from, refused_part}
 use Rattle.guest_services.proofs.output.put_bytes.Goals as goal
 
@@ -40,10 +40,12 @@ returns-in-Err-put_all g c =
     let fits : c.loop-at.at + c.min-count.result ≤ c.args.n = omega (arith, below, least) in
     let count = long c.min-count.result (omega (arith, least)) in
     let same = c.in-Ok.ensures.done ∙ ap (λ k. list_at k (bytes_of c.args.m.now) (c.args.from + c.loop-at.at)) count in
-    let put = c.in-Err-put_all.ensures in (
+    let put = c.in-Err-put_all.ensures in
+    let all = length-list_at c.args.n (bytes_of c.args.m.now) c.args.from in (
+      omega (arith, all, below),
       bytes_front (g.O.Sink.held c.args.out.now) (g.O.Sink.held c.loop-at.out) (g.O.Sink.held c.put_all.new.out) (bytes_of c.args.m.now) c.args.from c.loop-at.at c.min-count.result c.args.n fits c.loop-at.invariant.sent
-          (subst (λ (xs : List ℕ). AddsFront (g.O.Sink.held c.loop-at.out) (g.O.Sink.held c.put_all.new.out) xs) same put.0),
-      risen_from (g.O.Sink.faults c.args.out.now) (g.O.Sink.faults c.loop-at.out) (g.O.Sink.faults c.put_all.new.out) c.loop-at.invariant.no_fault put.1,
+          (subst (λ (xs : List ℕ). AddsFront (g.O.Sink.held c.loop-at.out) (g.O.Sink.held c.put_all.new.out) xs) same put.1),
+      risen_from (g.O.Sink.faults c.args.out.now) (g.O.Sink.faults c.loop-at.out) (g.O.Sink.faults c.put_all.new.out) c.loop-at.invariant.no_fault put.2,
     )
 
 pub loop-at-preserved : goal.loop-at-preserved

@@ -37,11 +37,11 @@ returns-else-free-clause-answer g c = let freed = c.if-free.ensures in
 
 pub returns-in-4098-clause-answer : goal.returns-in-4098-clause-answer
 returns-in-4098-clause-answer g c =
-    ((told (g.I.Source.left c.args.input.now)), tells (g.I.Source.left c.args.input.now), subst (λ (n : ℕ). Ends (meant (bytes_of c.args.m.now) n (word c.args.args 0) (word c.args.args 1) (word c.args.args 2) c.args.heap.now (told (g.I.Source.left c.args.input.now))) record { heap = c.args.heap.now; left = (g.I.Source.left c.args.input.now); held = (g.O.Sink.held c.args.out.now) } record { heap = c.args.heap.now; left = (g.I.Source.left c.args.input.now); held = (g.O.Sink.held c.print.new.out) } c.put_answer.result) (sym c.in-4098.is) (subst (λ (r : Answer). Ends (meant (bytes_of c.args.m.now) 0x1002 (word c.args.args 0) (word c.args.args 1) (word c.args.args 2) c.args.heap.now (told (g.I.Source.left c.args.input.now))) record { heap = c.args.heap.now; left = (g.I.Source.left c.args.input.now); held = (g.O.Sink.held c.args.out.now) } record { heap = c.args.heap.now; left = (g.I.Source.left c.args.input.now); held = (g.O.Sink.held c.print.new.out) } r) (sym c.put_answer.ensures) (puts (meant (bytes_of c.args.m.now) 0x1002 (word c.args.args 0) (word c.args.args 1) (word c.args.args 2) c.args.heap.now (told (g.I.Source.left c.args.input.now))) c.args.heap.now (g.I.Source.left c.args.input.now) (g.O.Sink.held c.args.out.now) (g.O.Sink.held c.print.new.out) (g.O.Sink.faults c.args.out.now) (g.O.Sink.faults c.print.new.out) (told (g.I.Source.left c.args.input.now)) (signed_decimal (value_of I64 (word c.args.args 0)) ++ 10 ∷ []) c.print.result (print_means (bytes_of c.args.m.now) (word c.args.args 0) (word c.args.args 1) (word c.args.args 2) c.args.heap.now (told (g.I.Source.left c.args.input.now))) (tells (g.I.Source.left c.args.input.now)) c.print.ensures)))
+    ((told (g.I.Source.left c.args.input.now)), tells (g.I.Source.left c.args.input.now), subst (λ (n : ℕ). Ends (meant (bytes_of c.args.m.now) n (word c.args.args 0) (word c.args.args 1) (word c.args.args 2) c.args.heap.now (told (g.I.Source.left c.args.input.now))) record { heap = c.args.heap.now; left = (g.I.Source.left c.args.input.now); held = (g.O.Sink.held c.args.out.now) } record { heap = c.args.heap.now; left = (g.I.Source.left c.args.input.now); held = (g.O.Sink.held c.print.new.out) } c.put_answer.result) (sym c.in-4098.is) (subst (λ (r : Answer). Ends (meant (bytes_of c.args.m.now) 0x1002 (word c.args.args 0) (word c.args.args 1) (word c.args.args 2) c.args.heap.now (told (g.I.Source.left c.args.input.now))) record { heap = c.args.heap.now; left = (g.I.Source.left c.args.input.now); held = (g.O.Sink.held c.args.out.now) } record { heap = c.args.heap.now; left = (g.I.Source.left c.args.input.now); held = (g.O.Sink.held c.print.new.out) } r) (sym c.put_answer.ensures.answer) (puts (meant (bytes_of c.args.m.now) 0x1002 (word c.args.args 0) (word c.args.args 1) (word c.args.args 2) c.args.heap.now (told (g.I.Source.left c.args.input.now))) c.args.heap.now (g.I.Source.left c.args.input.now) (g.O.Sink.held c.args.out.now) (g.O.Sink.held c.print.new.out) (g.O.Sink.faults c.args.out.now) (g.O.Sink.faults c.print.new.out) (told (g.I.Source.left c.args.input.now)) (signed_decimal (value_of I64 (word c.args.args 0)) ++ 10 ∷ []) c.print.result (print_means (bytes_of c.args.m.now) (word c.args.args 0) (word c.args.args 1) (word c.args.args 2) c.args.heap.now (told (g.I.Source.left c.args.input.now))) (tells (g.I.Source.left c.args.input.now)) c.print.ensures)))
 
 pub returns-in-4099-clause-answer : goal.returns-in-4099-clause-answer
 returns-in-4099-clause-answer g c =
-    ((told (g.I.Source.left c.args.input.now)), tells (g.I.Source.left c.args.input.now), subst (λ (n : ℕ). Ends (meant (bytes_of c.args.m.now) n (word c.args.args 0) (word c.args.args 1) (word c.args.args 2) c.args.heap.now (told (g.I.Source.left c.args.input.now))) record { heap = c.args.heap.now; left = (g.I.Source.left c.args.input.now); held = (g.O.Sink.held c.args.out.now) } record { heap = c.args.heap.now; left = (g.I.Source.left c.args.input.now); held = (g.O.Sink.held c.put_all.new.out) } c.put_answer-in-4099.result) (sym c.in-4099.is) (subst (λ (r : Answer). Ends (meant (bytes_of c.args.m.now) 0x1003 (word c.args.args 0) (word c.args.args 1) (word c.args.args 2) c.args.heap.now (told (g.I.Source.left c.args.input.now))) record { heap = c.args.heap.now; left = (g.I.Source.left c.args.input.now); held = (g.O.Sink.held c.args.out.now) } record { heap = c.args.heap.now; left = (g.I.Source.left c.args.input.now); held = (g.O.Sink.held c.put_all.new.out) } r) (sym c.put_answer-in-4099.ensures) (puts (meant (bytes_of c.args.m.now) 0x1003 (word c.args.args 0) (word c.args.args 1) (word c.args.args 2) c.args.heap.now (told (g.I.Source.left c.args.input.now))) c.args.heap.now (g.I.Source.left c.args.input.now) (g.O.Sink.held c.args.out.now) (g.O.Sink.held c.put_all.new.out) (g.O.Sink.faults c.args.out.now) (g.O.Sink.faults c.put_all.new.out) (told (g.I.Source.left c.args.input.now)) (word c.args.args 0 % 256 ∷ []) c.put_all.result (put_means (bytes_of c.args.m.now) (word c.args.args 0) (word c.args.args 1) (word c.args.args 2) c.args.heap.now (told (g.I.Source.left c.args.input.now))) (tells (g.I.Source.left c.args.input.now)) c.put_all.ensures)))
+    ((told (g.I.Source.left c.args.input.now)), tells (g.I.Source.left c.args.input.now), subst (λ (n : ℕ). Ends (meant (bytes_of c.args.m.now) n (word c.args.args 0) (word c.args.args 1) (word c.args.args 2) c.args.heap.now (told (g.I.Source.left c.args.input.now))) record { heap = c.args.heap.now; left = (g.I.Source.left c.args.input.now); held = (g.O.Sink.held c.args.out.now) } record { heap = c.args.heap.now; left = (g.I.Source.left c.args.input.now); held = (g.O.Sink.held c.put_all.new.out) } c.put_answer-in-4099.result) (sym c.in-4099.is) (subst (λ (r : Answer). Ends (meant (bytes_of c.args.m.now) 0x1003 (word c.args.args 0) (word c.args.args 1) (word c.args.args 2) c.args.heap.now (told (g.I.Source.left c.args.input.now))) record { heap = c.args.heap.now; left = (g.I.Source.left c.args.input.now); held = (g.O.Sink.held c.args.out.now) } record { heap = c.args.heap.now; left = (g.I.Source.left c.args.input.now); held = (g.O.Sink.held c.put_all.new.out) } r) (sym c.put_answer-in-4099.ensures.answer) (puts (meant (bytes_of c.args.m.now) 0x1003 (word c.args.args 0) (word c.args.args 1) (word c.args.args 2) c.args.heap.now (told (g.I.Source.left c.args.input.now))) c.args.heap.now (g.I.Source.left c.args.input.now) (g.O.Sink.held c.args.out.now) (g.O.Sink.held c.put_all.new.out) (g.O.Sink.faults c.args.out.now) (g.O.Sink.faults c.put_all.new.out) (told (g.I.Source.left c.args.input.now)) (word c.args.args 0 % 256 ∷ []) c.put_all.result (put_means (bytes_of c.args.m.now) (word c.args.args 0) (word c.args.args 1) (word c.args.args 2) c.args.heap.now (told (g.I.Source.left c.args.input.now))) (tells (g.I.Source.left c.args.input.now)) c.put_all.ensures)))
 
 pub returns-in-Ok-None-clause-answer : goal.returns-in-Ok-None-clause-answer
 returns-in-Ok-None-clause-answer g c =

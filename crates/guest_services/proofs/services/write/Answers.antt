@@ -32,4 +32,4 @@ pub returns-in-Err-clause-answer : goal.returns-in-Err-clause-answer
 returns-in-Err-clause-answer g c = λ heap left input may.
     let put = c.in-Err.ensures in
     faults (meant (bytes_of c.args.m.now) 1 c.args.descriptor c.args.from c.args.n heap input) c.args.n heap left (g.O.Sink.held c.args.out.now) (g.O.Sink.held c.put_bytes.new.out) input (list_at c.args.n (bytes_of c.args.m.now) c.args.from)
-    (write_done (bytes_of c.args.m.now) c.args.descriptor c.args.from c.args.n heap input c.if-descriptor-ne1.false c.if-n-eq0.false (sym c.first_unmapped.ensures.first ∙ c.in_default.is)) put.0
+    (write_done (bytes_of c.args.m.now) c.args.descriptor c.args.from c.args.n heap input c.if-descriptor-ne1.false c.if-n-eq0.false (sym c.first_unmapped.ensures.first ∙ c.in_default.is)) put.0 put.1
