@@ -3,7 +3,7 @@ use Rattle.std.proofs.Common.{◌≡◌, ◌≢◌, ℕ, zero, suc, ◌+◌, ◌
 use Rattle.std.proofs.lemmas.Bool.Decides.{eqb_tells, nat_tests}
 use Rattle.mx_base.specs.Heap.{Range, range_end, first_fit, behind, taken_from, placed, block_at, without_block, joined_to, freed_into}
 use Rattle.guest_services.specs.declared.blocks.Block.{Block}
-use Rattle.guest_services.specs.Blocks.{range_of, free_among, live_among, starts_live, IsTiled, live_block, free_block, is_fit, split, given, is_live_at, joined, given_up, joined_at, total_size}
+use Rattle.guest_services.specs.Blocks.{range_of, free_among, live_among, starts_live, IsTiled, live_block, free_block, is_fit, split, given, is_live_at, joined, given_up, joined_at, total_size, IsFront}
 use Rattle.std.specs.List.{insert, remove}
 use Rattle.std.specs.List.Sorted.{IsNonDecreasingBy, IsPartitionPoint}
 use Rattle.std.proofs.Common.{set}
@@ -475,6 +475,42 @@ none_live at bs a i tiled point here k d within = elim (nat_lt k i) as (λ b. na
     | inr s ↦ (let other = s.1 in none_live_behind at bs a i k d tiled (point.1 i d (omega arith) (omega (arith, from))) (omega (arith, from, other)) within)
   ]
 ] refl
+
+-- ---- blocks in front that are live
+
+live_unfit : (n : ℕ) (b : Block) → b.live ≡ true → is_fit n b ≡ false
+live_unfit n b live = rw live refl
+
+pub front_none : (bs : List Block) → IsFront 0 bs
+front_none bs = record { within = omega arith; live = λ k d below. absurd (omega arith) }
+
+front_tail : (m : ℕ) (b : Block) (bs : List Block) → IsFront (suc m) (b ∷ bs) → IsFront m bs
+front_tail m b bs front = let most = front.within in record { within = omega (arith, most); live = λ k d below. front.live (suc k) d (omega arith) }
+
+front_live : (m : ℕ) (b : Block) (bs : List Block) → b.live ≡ true → IsFront m bs → (k : ℕ) (d : Block) → k < suc m → (get_or (b ∷ bs) k d).live ≡ true
+front_live m b bs live front zero d below = live
+front_live m b bs live front (suc k) d below = front.live k d (omega arith)
+
+front_more : (m : ℕ) (b : Block) (bs : List Block) → b.live ≡ true → IsFront m bs → IsFront (suc m) (b ∷ bs)
+front_more m b bs live front = let most = front.within in record { within = omega (arith, most); live = front_live m b bs live front }
+
+pub front-given : (n m : ℕ) (bs : List Block) → IsFront m bs → IsFront m (given n bs)
+front-given n m [] front = front
+front-given n zero (b ∷ bs) front = front_none (given n (b ∷ bs))
+front-given n (suc m) (b ∷ bs) front =
+    let live = front.live zero b (omega arith) in
+    rw (live_unfit n b live) (front_more m b (given n bs) live (front-given n m bs (front_tail m b bs front)))
+
+pub front-given_up : (a m i : ℕ) (bs : List Block) → IsFront m bs → ((k : ℕ) (d : Block) → k < i → is_live_at a (get_or bs k d) ≡ false) → m ≤ i - 1 → IsFront m (given_up a bs)
+front-given_up a m i [] front before few = front
+front-given_up a zero i (b ∷ bs) front before few = front_none (given_up a (b ∷ bs))
+front-given_up a (suc m) i (b ∷ bs) front before few =
+    let live = front.live zero b (omega arith) in
+    rw (before zero b (omega arith), joined-by_life b (given_up a bs) live)
+    (front_more m b (given_up a bs) live (front-given_up a m (i - 1) bs (front_tail m b bs front) (λ k d below. before (suc k) d (omega arith)) (omega arith)))
+
+pub front_least : (m n : ℕ) (bs : List Block) → IsFront n bs → m ≤ n → IsFront m bs
+front_least m n bs front few = let most = front.within in record { within = omega (arith, most, few); live = λ k d below. front.live k d (omega (arith, few)) }
 
 -- ---- sizes and places
 

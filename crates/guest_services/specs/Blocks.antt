@@ -1,5 +1,5 @@
 -- The heap as one list of blocks by address, live and free ones, which lie end to end.
-use Rattle.std.specs.Prelude.{◌≡◌, ℕ, zero, suc, ◌+◌, ◌-◌, ◌<◌, ◌≤◌, nat_le, Bool, true, false, not, ◌&&◌, ◌==◌, if◌then◌else◌, Option, None, Some, List, [], ◌∷◌, length, refl}
+use Rattle.std.specs.Prelude.{◌≡◌, ℕ, zero, suc, ◌+◌, ◌-◌, ◌<◌, ◌≤◌, nat_le, Bool, true, false, not, ◌&&◌, ◌==◌, if◌then◌else◌, Option, None, Some, List, [], ◌∷◌, length, slice_index_or, refl}
 use Rattle.std.specs.Coded.{Coded, code_by, coded×, coded_ℕ, coded_list}
 use Rattle.guest_services.specs.declared.blocks.Block.{Block}
 use Rattle.mx_base.specs.Regions.{heap_region}
@@ -77,6 +77,11 @@ joined_at (suc i) (b ∷ bs) = b ∷ joined_at i bs
 abbrev pub total_size : List Block → ℕ
 total_size [] = 0
 total_size (b ∷ bs) = b.size + total_size bs
+
+-- the blocks before a place are live
+pub record IsFront (place : ℕ) (bs : List Block) : Type 0 where
+  pub within : place ≤ length bs
+  pub live : (k : ℕ) (d : Block) → k < place → (slice_index_or bs k d).live ≡ true
 
 -- what is known of the blocks of a heap, and of how many are live
 pub record AreBlocks (bs : List Block) (live : ℕ) : Type 0 where

@@ -1,7 +1,7 @@
 //! The blocks of the heap by address.
 ghost use Rattle.std.specs.Prelude.{◌≡◌, ℕ, ◌+◌, ◌<◌, ◌≤◌, length, slice_index_or, slice_set, true, false, vec_len, vec_capacity};
 ghost use Rattle.guest_services.specs.declared.blocks.Block.{Block as HeapBlock};
-ghost use Rattle.guest_services.specs.Blocks.{is_fit, is_live_at, given, given_up, joined_at, total_size, IsTiled};
+ghost use Rattle.guest_services.specs.Blocks.{is_fit, is_live_at, given, given_up, joined_at, total_size, IsFront, IsTiled};
 
 /// Some bytes of the heap, which are in use or free.
 #[derive(Clone, Copy)]
@@ -11,13 +11,29 @@ pub struct Block {
     pub size: u64,
 }
 
-/// The place of the first free block of `n` bytes or more; the number of blocks if there is none.
-pub fn first_fit(blocks: &[Block], n: u64) -> usize
+/// The place of the first free block, or the number of blocks if there is none, where those before `from` are live.
+pub fn first_free(blocks: &[Block], from: usize) -> usize
+    requires { IsFront from blocks.now }
+    ensures { IsFront result blocks.now }
+{
+    for i in from..blocks.len() {
+        if !blocks[i].live {
+            return i;
+        }
+    }
+    blocks.len()
+}
+
+/// The place of the first free block of `n` bytes or more, or the number of blocks if there is none, where those before
+/// `from` are live.
+pub fn first_fit(blocks: &[Block], from: usize, n: u64) -> usize
+    requires { IsFront from blocks.now }
     ensures within { result ≤ length blocks.now }
     ensures before { (k : ℕ) (d : HeapBlock) → k < result → is_fit n (slice_index_or blocks.now k d) ≡ false }
     ensures here { (d : HeapBlock) → result < length blocks.now → is_fit n (slice_index_or blocks.now result d) ≡ true }
 {
-    for (i, b) in blocks.iter().enumerate() {
+    for i in from..blocks.len() {
+        let b = &blocks[i];
         if !b.live && n <= b.size {
             return i;
         }
@@ -48,7 +64,7 @@ pub fn give(blocks: &mut Vec<Block>, i: usize, n: u64)
     requires low { (d : HeapBlock) → (slice_index_or blocks.old.items i d).at ≤ 0x4000_0000 }
     requires room { length blocks.old.items < vec_capacity blocks.old }
     ensures items { blocks.new.items ≡ given n blocks.old.items }
-    ensures reserved { vec_capacity blocks.old ≤ vec_capacity blocks.new }
+    ensures reserved { vec_capacity blocks.new ≡ vec_capacity blocks.old }
 {
     let b = blocks[i];
     blocks[i] = Block {
@@ -74,7 +90,7 @@ fn join(blocks: &mut Vec<Block>, i: usize)
     requires within { i < length blocks.old.items }
     requires small { total_size blocks.old.items ≤ 0x1000_0000 }
     ensures items { blocks.new.items ≡ joined_at i blocks.old.items }
-    ensures reserved { vec_capacity blocks.old ≤ vec_capacity blocks.new }
+    ensures reserved { vec_capacity blocks.new ≡ vec_capacity blocks.old }
 {
     if i + 1 >= blocks.as_slice().len() {
         return;
@@ -99,7 +115,7 @@ pub fn give_up(blocks: &mut Vec<Block>, i: usize, a: u64)
     requires here { (d : HeapBlock) → is_live_at a (slice_index_or blocks.old.items i d) ≡ true }
     requires tiled { IsTiled 0x3000_0000 blocks.old.items }
     ensures items { blocks.new.items ≡ given_up a blocks.old.items }
-    ensures reserved { vec_capacity blocks.old ≤ vec_capacity blocks.new }
+    ensures reserved { vec_capacity blocks.new ≡ vec_capacity blocks.old }
 {
     let b = blocks[i];
     blocks[i] = Block {

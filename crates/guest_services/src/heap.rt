@@ -2,7 +2,7 @@ ghost use Rattle.std.specs.Prelude.{◌≡◌, ℕ, true, false, Some, None, IfO
 ghost use Rattle.mx_base.specs.Heap.{whole_heap, allocated, freed};
 ghost use Rattle.guest_services.specs.Blocks.{FreedTo};
 
-use crate::blocks::{Block, first_fit, give, give_up, live_at};
+use crate::blocks::{Block, first_fit, first_free, give, give_up, live_at};
 use mx_base::OutOfMemory;
 use std::alloc::Global;
 use std::marker::Model;
@@ -18,12 +18,13 @@ const MOST_BLOCKS: u32 = 65536;
 pub struct Heap {
     blocks: Vec<Block>,
     live: u32,
+    front: usize,
 }
 
 impl Model for Heap {
-    ghost use Rattle.std.specs.Prelude.{◌≤◌, vec_capacity};
+    ghost use Rattle.std.specs.Prelude.{◌≡◌, vec_capacity};
     ghost use Rattle.mx_base.specs.Heap.{Heap as HeapLists};
-    ghost use Rattle.guest_services.specs.Blocks.{AreBlocks, heap_of, heap_code};
+    ghost use Rattle.guest_services.specs.Blocks.{AreBlocks, IsFront, heap_of, heap_code};
 
     ghost Value = { HeapLists };
 
@@ -31,7 +32,7 @@ impl Model for Heap {
 
     ghost view = { λ h. heap_of h.blocks.items };
 
-    ghost invariant = { λ h. AreBlocks h.blocks.items h.live × (131073 ≤ vec_capacity h.blocks) };
+    ghost invariant = { λ h. AreBlocks h.blocks.items h.live × (vec_capacity h.blocks ≡ 131073) × IsFront h.front h.blocks.items };
 }
 
 impl Heap {
@@ -45,8 +46,12 @@ impl Heap {
             at: HEAP_START,
             size: HEAP_SIZE,
         };
-        blocks.push(whole)?;
-        Ok(Heap { blocks, live: 0 })
+        blocks.push_reserved(whole);
+        Ok(Heap {
+            blocks,
+            live: 0,
+            front: 0,
+        })
     }
 
     /// The address of a new block of `n` bytes, rounded up to a multiple of 16, from the front of the first free range that
@@ -58,12 +63,14 @@ impl Heap {
             return 0;
         }
         let size = (n + 15) / 16 * 16;
-        let i = first_fit(&self.blocks, size);
+        let front = first_free(&self.blocks, self.front);
+        let i = first_fit(&self.blocks, front, size);
         if i >= self.blocks.as_slice().len() {
             return 0;
         }
         let at = self.blocks[i].at;
         give(&mut self.blocks, i, size);
+        self.front = front;
         self.live += 1;
         at
     }
@@ -77,6 +84,7 @@ impl Heap {
             return false;
         }
         give_up(&mut self.blocks, i, a);
+        self.front = self.front.min(i.saturating_sub(1));
         self.live -= 1;
         true
     }
@@ -86,6 +94,36 @@ impl Heap {
 mod tests {
     use super::*;
     use std::test::Fail;
+
+    #[test]
+    fn as_many_blocks_live_as_may(rt: HostRuntime) -> Result<(), Fail> {
+        let mut heap = Heap::make(rt.alloc())?;
+        for k in 0..65_536u64 {
+            assert_eq!(rt; heap.alloc(1), 0x3000_0000 + 16 * k);
+        }
+        assert_eq!(rt; heap.alloc(1), 0);
+        // Every second block is free. The last one touches the bytes behind it, the others touch none.
+        for k in 0..32_768u64 {
+            assert!(rt; heap.free(0x3000_0010 + 32 * k));
+        }
+        let table = [
+            (17, 0x300f_fff0),
+            (16, 0x3000_0010),
+            (0x0ff0_0000, 0),
+            (0x0fef_fff0, 0x3010_0010),
+            (17, 0),
+            (1, 0x3000_0030),
+        ];
+        for (size, want) in table {
+            assert_eq!(rt; heap.alloc(size), want, "{size}");
+        }
+        // Blocks that touch are one range again.
+        assert!(rt; heap.free(0x3000_0040) && heap.free(0x3000_0080));
+        assert_eq!(rt; heap.alloc(49), 0);
+        assert!(rt; heap.free(0x3000_0060));
+        assert_eq!(rt; heap.alloc(96), 0x3000_0040);
+        Ok(())
+    }
 
     #[test]
     fn blocks_come_from_the_front_and_join_again(rt: HostRuntime) -> Result<(), Fail> {

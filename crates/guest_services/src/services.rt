@@ -103,46 +103,4 @@ pub fn call<I: Source, O: Sink>(
 }
 
 #[cfg(test)]
-mod tests {
-    use super::*;
-    use mx_base::{MemSink, MemSource};
-    use std::test::Fail;
-
-    #[test]
-    fn each_service_answers(rt: HostRuntime) -> Result<(), Fail> {
-        let mut heap = Heap::make(rt.alloc())?;
-        let mut m = Memory::make(rt.alloc(), 2)?;
-        let _placed = m.write(0x2000_0ffe, b"abc");
-        let mut input = MemSource::make(rt.alloc(), b"x", &[2])?;
-        let mut out = MemSink::make(rt.alloc(), 9, &[])?;
-        let table = [
-            (1, [1, 0x2000_0ffe, 3], Served::Value(3)),
-            (1, [2, 0x2000_0ffe, 3], Served::Value(u64::MAX - 8)),
-            (1, [1, 0, 0], Served::Value(0)),
-            (1, [1, 0x20ff_ffff, 2], Served::Unmapped(0x2100_0000)),
-            (1, [1, 0x1000_0000, u64::MAX], Served::Unmapped(0x1100_0000)),
-            (1, [1, 0, 1], Served::Unmapped(0)),
-            (60, [0x141, 0, 0], Served::Exit(0x41)),
-            (0x1000, [5, 0, 0], Served::Value(0x3000_0000)),
-            (0x1001, [0x3000_0000, 0, 0], Served::Value(0)),
-            (0x1001, [0x3000_0000, 0, 0], Served::Value(u64::MAX)),
-            (0x1002, [u64::MAX - 11, 0, 0], Served::Value(0)),
-            (0x1003, [0x17a, 0, 0], Served::Value(0)),
-            (0x1004, [0, 0, 0], Served::Value(120)),
-            (0x1004, [0, 0, 0], Served::Value(u64::MAX)),
-            (0x1004, [0, 0, 0], Served::ReadFault),
-            (0x1005, [0, 0, 0], Served::StackOver),
-            (7, [0, 0, 0], Served::Value(u64::MAX - 37)),
-            (0x1002, [7, 0, 0], Served::WriteFault),
-        ];
-        for (number, args, want) in table {
-            assert_eq!(rt;
-                call(&mut heap, &m, number, args, &mut input, &mut out),
-                want,
-                "{number}"
-            );
-        }
-        assert_eq!(rt; out.held(), b"abc-12\nz7".as_slice());
-        Ok(())
-    }
-}
+mod tests;

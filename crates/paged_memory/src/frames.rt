@@ -58,11 +58,11 @@ fn put_part(frames: &mut [u8], at: usize, bytes: &[u8])
 /// Writes bytes into one page, which gets a frame if it has none.
 fn put_page(slots: &mut Vec<Slot>, frames: &mut [u8], capacity: u32, a: u64, bytes: &[u8])
     requires sound { IsSound slots.old.items frames.old capacity }
-    requires reserved { capacity ≤ vec_capacity slots.old }
+    requires reserved { vec_capacity slots.old ≡ capacity }
     requires inside { a % 4096 + length bytes.now ≤ 4096 }
     requires room { length (touched_with (a / 4096) (pages_in slots.old.items)) ≤ capacity }
     ensures sound { IsSound slots.new.items frames.new capacity }
-    ensures reserved { capacity ≤ vec_capacity slots.new }
+    ensures reserved { vec_capacity slots.new ≡ capacity }
     ensures bytes { byte_under (frame_in slots.new.items) frames.new ≡ with_list (byte_under (frame_in slots.old.items) frames.old) a bytes.now }
     ensures pages { pages_in slots.new.items ≡ touched_with (a / 4096) (pages_in slots.old.items) }
 {
@@ -73,11 +73,11 @@ fn put_page(slots: &mut Vec<Slot>, frames: &mut [u8], capacity: u32, a: u64, byt
 /// Writes bytes from a on, whose pages get frames where they have none.
 pub fn put(slots: &mut Vec<Slot>, frames: &mut [u8], capacity: u32, a: u64, bytes: &[u8])
     requires sound { IsSound slots.old.items frames.old capacity }
-    requires reserved { capacity ≤ vec_capacity slots.old }
+    requires reserved { vec_capacity slots.old ≡ capacity }
     requires fits { a + length bytes.now < 2 ^ 64 }
     requires room { length (touched_by (length bytes.now) a (pages_in slots.old.items)) ≤ capacity }
     ensures sound { IsSound slots.new.items frames.new capacity }
-    ensures reserved { capacity ≤ vec_capacity slots.new }
+    ensures reserved { vec_capacity slots.new ≡ capacity }
     ensures bytes { byte_under (frame_in slots.new.items) frames.new ≡ with_list (byte_under (frame_in slots.old.items) frames.old) a bytes.now }
     ensures pages { pages_in slots.new.items ≡ touched_by (length bytes.now) a (pages_in slots.old.items) }
 {

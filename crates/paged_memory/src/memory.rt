@@ -23,7 +23,7 @@ pub struct Memory {
 }
 
 impl Model for Memory {
-    ghost use Rattle.std.specs.Prelude.{◌≤◌, vec_capacity};
+    ghost use Rattle.std.specs.Prelude.{◌≡◌, vec_capacity};
     ghost use Rattle.paged_memory.specs.Paged.{Paged, paged_code};
     ghost use Rattle.paged_memory.specs.Frames.{IsSound, paged_of};
 
@@ -33,7 +33,7 @@ impl Model for Memory {
 
     ghost view = { λ m. paged_of m.slots.items m.frames.items m.capacity };
 
-    ghost invariant = { λ m. IsSound m.slots.items m.frames.items m.capacity × (m.capacity ≤ vec_capacity m.slots) };
+    ghost invariant = { λ m. IsSound m.slots.items m.frames.items m.capacity × (vec_capacity m.slots ≡ m.capacity) };
 }
 
 impl Memory {

@@ -39,7 +39,7 @@ fn touch(slots: &mut Vec<Slot>, page: u64)
     requires few { length slots.old.items < 524288 }
     requires sorted { AreByPage slots.old.items }
     ensures items { slots.new.items ≡ slot_placed record { page = page; frame = length slots.old.items } slots.old.items }
-    ensures reserved { vec_capacity slots.old ≤ vec_capacity slots.new }
+    ensures reserved { vec_capacity slots.new ≡ vec_capacity slots.old }
 {
     let frame = slots.as_slice().len() as u32;
     let at = place_of(slots, page);
@@ -55,7 +55,7 @@ pub fn frame_for(slots: &mut Vec<Slot>, page: u64) -> u32
     requires few { length (touched_with page (pages_in slots.old.items)) ≤ 524288 }
     requires sorted { AreByPage slots.old.items }
     ensures frame { HasFrame slots.old.items slots.new.items page result }
-    ensures reserved { vec_capacity slots.old ≤ vec_capacity slots.new }
+    ensures reserved { vec_capacity slots.new ≡ vec_capacity slots.old }
 {
     match frame_of(slots, page) {
         Some(frame) => frame,

@@ -8,7 +8,7 @@ abbrev pub invariant-loop-at : goal.invariant-loop-at
 invariant-loop-at l = record {
   within : l.at ≤ length l.bytes;
   sound : IsSound l.slots.items l.frames l.capacity;
-  reserved : l.capacity ≤ vec_capacity l.slots;
+  reserved : vec_capacity l.slots ≡ l.capacity;
   bytes : byte_under (frame_in l.slots.items) l.frames ≡ with_list (byte_under (frame_in l.initial.slots.items) l.initial.frames) l.a (take l.at l.bytes);
   pages : pages_in l.slots.items ≡ touched_by l.at l.a (pages_in l.initial.slots.items);
 }

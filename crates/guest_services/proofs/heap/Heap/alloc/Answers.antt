@@ -2,8 +2,8 @@ use Rattle.std.specs.Prelude.{length}
 use Rattle.std.proofs.Common.{◌≡◌, ◌≢◌, ◌∙◌, sym, ap, arith, subst, true, false, ℕ, ◌+◌, ◌*◌, ◌/◌, ◌<◌, List, get_or}
 use Rattle.mx_base.specs.Heap.{Heap, allocated, rounded, first_fit, taken_from, placed}
 use Rattle.guest_services.specs.declared.blocks.Block.{Block}
-use Rattle.guest_services.specs.Blocks.{heap_of, free_among, live_among, is_fit, range_of, IsTiled}
-use Rattle.guest_services.proofs.BlockLists.{no_fit, fit_found, too_large, free-given, live-given, tiled-given, few, total-tiled, tiled_low, length-placed}
+use Rattle.guest_services.specs.Blocks.{heap_of, free_among, live_among, is_fit, range_of, IsTiled, IsFront}
+use Rattle.guest_services.proofs.BlockLists.{no_fit, fit_found, too_large, free-given, live-given, tiled-given, few, front-given, total-tiled, tiled_low, length-placed}
 use Rattle.guest_services.proofs.Heaps.{rounded_is, rounded_least, none_asked, none_more, none_fits, one_fits}
 use Rattle.guest_services.proofs.heap.Heap.alloc.Goals as goal
 use Rattle.guest_services.proofs.heap.Heap.alloc.Goals.{then-n-eq0-via-then-n-eq0, then-n-eq0-via-else-n-eq0+then-self-ge-MOST_BLOCKS, then-n-eq0-via-else-n-eq0+else-self-ge-MOST_BLOCKS+then-n-gt-HEAP_SIZE}
@@ -28,7 +28,7 @@ pub returns-then-i-as_slice : goal.returns-then-i-as_slice
 returns-then-i-as_slice c =
     let count = ap length c.as_slice.ensures.value in
     let last = c.if-i-as_slice.true in
-    let before = subst (λ (xs : List Block). (k : ℕ) (d : Block) → k < c.first_fit-i.result → is_fit ((c.args.n + 15) / 16 * 16) (get_or xs k d) ≡ false) c.deref.ensures.value c.first_fit-i.ensures.before in
+    let before = subst (λ (xs : List Block). (k : ℕ) (d : Block) → k < c.first_fit-i.result → is_fit ((c.args.n + 15) / 16 * 16) (get_or xs k d) ≡ false) c.deref-2.ensures.value c.first_fit-i.ensures.before in
     let none = no_fit ((c.args.n + 15) / 16 * 16) c.self.inside.blocks.items (λ k d below. before k d (omega (arith, count, last))) in
     subst (λ (h : Heap). ◌≡◌ {A = ℕ × Heap} (0, h) (allocated h c.args.n)) c.self.view_is
     (none_fits (heap_of c.self.inside.blocks.items) c.args.n (ap (first_fit (free_among c.self.inside.blocks.items)) (sym (rounded_is c.args.n)) ∙ none))
@@ -56,8 +56,8 @@ invariant_of-self c =
     let many = ap length c.as_slice.ensures.value in
     let more = c.if-i-as_slice.false in
     let some : 0 < (c.args.n + 15) / 16 * 16 = (let asked : c.args.n ≢ 0 = c.if-n-eq0.false in omega arith) in
-    let before = subst (λ (xs : List Block). (k : ℕ) (d : Block) → k < c.first_fit-i.result → is_fit ((c.args.n + 15) / 16 * 16) (get_or xs k d) ≡ false) c.deref.ensures.value c.first_fit-i.ensures.before in
-    let here = subst (λ (xs : List Block). (d : Block) → c.first_fit-i.result < length xs → is_fit ((c.args.n + 15) / 16 * 16) (get_or xs c.first_fit-i.result d) ≡ true) c.deref.ensures.value c.first_fit-i.ensures.here in
+    let before = subst (λ (xs : List Block). (k : ℕ) (d : Block) → k < c.first_fit-i.result → is_fit ((c.args.n + 15) / 16 * 16) (get_or xs k d) ≡ false) c.deref-2.ensures.value c.first_fit-i.ensures.before in
+    let here = subst (λ (xs : List Block). (d : Block) → c.first_fit-i.result < length xs → is_fit ((c.args.n + 15) / 16 * 16) (get_or xs c.first_fit-i.result d) ≡ true) c.deref-2.ensures.value c.first_fit-i.ensures.here in
     let within : c.first_fit-i.result < length c.self.inside.blocks.items = omega (arith, many, more) in
     let fits = subst (λ (x : Block). is_fit ((c.args.n + 15) / 16 * 16) x ≡ true) (sym c.index.ensures) (here c.index.result.now within) in
     let found = fit_found ((c.args.n + 15) / 16 * 16) c.self.inside.blocks.items c.first_fit-i.result c.index.result.now before within c.index.ensures fits in
@@ -73,6 +73,8 @@ invariant_of-self c =
         few = omega (arith, less);
       },
       omega (arith, reserved, kept),
+      subst (λ (xs : List Block). IsFront c.first_free-front.result xs) (sym c.give.ensures.items)
+          (front-given ((c.args.n + 15) / 16 * 16) c.first_free-front.result c.self.inside.blocks.items (subst (λ (xs : List Block). IsFront c.first_free-front.result xs) c.deref.ensures.value c.first_free-front.ensures)),
     )
 
 pub returns : goal.returns
@@ -81,8 +83,8 @@ returns c =
     let many = ap length c.as_slice.ensures.value in
     let more = c.if-i-as_slice.false in
     let asked : c.args.n ≢ 0 = c.if-n-eq0.false in
-    let before = subst (λ (xs : List Block). (k : ℕ) (d : Block) → k < c.first_fit-i.result → is_fit ((c.args.n + 15) / 16 * 16) (get_or xs k d) ≡ false) c.deref.ensures.value c.first_fit-i.ensures.before in
-    let here = subst (λ (xs : List Block). (d : Block) → c.first_fit-i.result < length xs → is_fit ((c.args.n + 15) / 16 * 16) (get_or xs c.first_fit-i.result d) ≡ true) c.deref.ensures.value c.first_fit-i.ensures.here in
+    let before = subst (λ (xs : List Block). (k : ℕ) (d : Block) → k < c.first_fit-i.result → is_fit ((c.args.n + 15) / 16 * 16) (get_or xs k d) ≡ false) c.deref-2.ensures.value c.first_fit-i.ensures.before in
+    let here = subst (λ (xs : List Block). (d : Block) → c.first_fit-i.result < length xs → is_fit ((c.args.n + 15) / 16 * 16) (get_or xs c.first_fit-i.result d) ≡ true) c.deref-2.ensures.value c.first_fit-i.ensures.here in
     let within : c.first_fit-i.result < length c.self.inside.blocks.items = omega (arith, many, more) in
     let fits = subst (λ (x : Block). is_fit ((c.args.n + 15) / 16 * 16) x ≡ true) (sym c.index.ensures) (here c.index.result.now within) in
     let found = fit_found ((c.args.n + 15) / 16 * 16) c.self.inside.blocks.items c.first_fit-i.result c.index.result.now before within c.index.ensures fits in

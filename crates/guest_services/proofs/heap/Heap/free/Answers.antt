@@ -3,8 +3,8 @@ use Rattle.std.proofs.Common.{◌≡◌, ◌∙◌, sym, ap, arith, subst, true,
 use Rattle.mx_base.specs.Heap.{Range, freed, block_at}
 use Rattle.std.proofs.lemmas.List.{get_or_default}
 use Rattle.guest_services.specs.declared.blocks.Block.{Block}
-use Rattle.guest_services.specs.Blocks.{heap_of, free_among, live_among, is_live_at, range_of, IsTiled}
-use Rattle.guest_services.proofs.BlockLists.{no_block, block_found, free-given_up, live-given_up, tiled-given_up, length-without}
+use Rattle.guest_services.specs.Blocks.{heap_of, free_among, live_among, is_live_at, range_of, IsTiled, IsFront}
+use Rattle.guest_services.proofs.BlockLists.{no_block, block_found, free-given_up, live-given_up, tiled-given_up, length-without, front-given_up, front_least}
 use Rattle.guest_services.proofs.Heaps.{freed_none, freed_some}
 use Rattle.guest_services.proofs.heap.Heap.free.Goals as goal
 
@@ -52,13 +52,19 @@ invariant_of-self c =
     let less = sound.few in
     let live = ap length (ap live_among c.give_up.ensures.items ∙ live-given_up c.args.a c.self.inside.blocks.items) in
     let reserved = c.self.invariant.1 in
-    let kept = c.give_up.ensures.reserved in (
+    let kept = c.give_up.ensures.reserved in
+    let least = c.min-self-inside.ensures in
+    let back = c.saturating_sub.ensures in (
       record {
         tiled = subst (λ (xs : List Block). IsTiled 0x3000_0000 xs) (sym c.give_up.ensures.items) (tiled-given_up 0x3000_0000 c.args.a c.self.inside.blocks.items sound.tiled);
         count = omega (arith, live, gone, count);
         few = omega (arith, less);
       },
       omega (arith, reserved, kept),
+      subst (λ (xs : List Block). IsFront c.min-self-inside.result xs) (sym c.give_up.ensures.items)
+          (front-given_up c.args.a c.min-self-inside.result c.live_at-i.result c.self.inside.blocks.items
+          (front_least c.min-self-inside.result c.self.inside.front c.self.inside.blocks.items c.self.invariant.2 (omega (arith, least)))
+          before (omega (arith, least, back))),
     )
 
 pub returns : goal.returns
