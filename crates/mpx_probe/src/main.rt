@@ -2,16 +2,22 @@
 //! repeats one call.
 //!
 //! `decode` prints `LENGTH FORM`, `Undefined` or `Short N` for each line, and `recode` the bytes of the spelling of what it
-//! read, or the same refusals. `tokens FILE` prints the number of the file's tokens, or `KIND LINE:COL`. `speed decode N`
-//! and `speed encode N` do so many calls and print the count.
+//! read, or the same refusals. `tokens FILE` prints the number of the file's tokens, or `KIND LINE:COL`. `speed CALL N` does
+//! so many calls and prints how many were done: `decode`, `encode`; loads and stores of memory within a page (`load-one`,
+//! `store-one`) and over 10,000 pages (`load-many`, `store-many`); a free and an alloc among 65,536 live blocks (`heap`), and
+//! an alloc and a free behind 32,767 small free ranges (`heap-gaps`). `speed touch N` touches so many pages and prints how many
+//! frames are in use.
 #![tactic(auto)]
 
 mod files;
 mod instructions;
+mod memory;
 mod speed;
 
 use files::tokens_line;
 use instructions::{decode_line, recode_line};
+use memory::{gaps_often, heap_often, load_often, store_often, touch_pages};
+use mx_base::OutOfMemory;
 use speed::{decode_often, encode_often};
 use std::alloc::Global;
 use std::process::ExitCode;
@@ -62,17 +68,40 @@ fn of_file<R: Files + Print + Alloc<A = Global>>(
     Ok(true)
 }
 
-/// Does a call so many times, and says whether there is such a call.
-fn repeat<R: Print>(rt: &R, command: &str, call: &str, count: &str) -> io::Result<bool> {
+/// Does a call so many times, and says whether there is such a call and memory for it.
+fn repeat<R: Print + Alloc<A = Global>>(
+    rt: &R,
+    command: &str,
+    call: &str,
+    count: &str,
+) -> io::Result<bool> {
     let times = match count.parse::<u32>() {
         Ok(times) => times,
         Err(_) => return Ok(false),
     };
-    let done = match (command, call) {
-        ("speed", "decode") => decode_often(times),
-        ("speed", "encode") => encode_often(times),
-        _ => return Ok(false),
-    };
-    println!(rt; "{done}")?;
+    if command != "speed" {
+        return Ok(false);
+    }
+    match done_often(rt.alloc(), call, times) {
+        Ok(Some(done)) => println!(rt; "{done}")?,
+        Ok(None) | Err(OutOfMemory) => return Ok(false),
+    }
     Ok(true)
+}
+
+/// How many of so many calls were done; none where there is no such call.
+fn done_often(alloc: Global, call: &str, times: u32) -> Result<Option<u32>, OutOfMemory> {
+    let done = match call {
+        "decode" => decode_often(times),
+        "encode" => encode_often(times),
+        "load-one" => load_often(alloc, 1, times)?,
+        "load-many" => load_often(alloc, 10_000, times)?,
+        "store-one" => store_often(alloc, 1, times)?,
+        "store-many" => store_often(alloc, 10_000, times)?,
+        "touch" => touch_pages(alloc, times)?,
+        "heap" => heap_often(alloc, times)?,
+        "heap-gaps" => gaps_often(alloc, times)?,
+        _ => return Ok(None),
+    };
+    Ok(Some(done))
 }
