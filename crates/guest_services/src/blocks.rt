@@ -14,7 +14,8 @@ pub struct Block {
 /// The place of the first free block, or the number of blocks if there is none, where those before `from` are live.
 pub fn first_free(blocks: &[Block], from: usize) -> usize
     requires { IsFront from blocks.now }
-    ensures { IsFront result blocks.now }
+    ensures before { IsFront result blocks.now }
+    ensures here { (d : HeapBlock) → result < length blocks.now → (slice_index_or blocks.now result d).live ≡ false }
 {
     for i in from..blocks.len() {
         if !blocks[i].live {

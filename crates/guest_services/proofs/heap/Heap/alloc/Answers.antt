@@ -74,7 +74,7 @@ invariant_of-self c =
       },
       omega (arith, reserved, kept),
       subst (λ (xs : List Block). IsFront c.first_free-front.result xs) (sym c.give.ensures.items)
-          (front-given ((c.args.n + 15) / 16 * 16) c.first_free-front.result c.self.inside.blocks.items (subst (λ (xs : List Block). IsFront c.first_free-front.result xs) c.deref.ensures.value c.first_free-front.ensures)),
+          (front-given ((c.args.n + 15) / 16 * 16) c.first_free-front.result c.self.inside.blocks.items (subst (λ (xs : List Block). IsFront c.first_free-front.result xs) c.deref.ensures.value c.first_free-front.ensures.before)),
     )
 
 pub returns : goal.returns
