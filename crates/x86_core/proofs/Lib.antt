@@ -1,3 +1,6 @@
 mod EarlyPrograms
 mod EarlyRunning
 mod EarlySteps
+pub mod Stepping
+pub mod Spreading
+pub mod Rows

@@ -1,0 +1,23 @@
+use Rattle.std.proofs.Common.{◌≡◌, ℕ, ◌+◌, ◌%◌, ◌^◌, ◌<◌, ◌∙◌, ap, sym, refl, arith, rules}
+use Rattle.std.specs.Prelude.{Ok, Err}
+use Rattle.std.proofs.lemmas.Result.{err_from_is_err_and}
+use Rattle.x86_forms.specs.Arithmetic.{low}
+use Rattle.x86_forms.specs.Processor.{rsp, above_stack, with_part, with_reg}
+use Rattle.x86_core.specs.declared.cpu.Cpu.{Cpu}
+use Rattle.x86_core.specs.declared.cpu.Done.TheVariants.{Next}
+use Rattle.x86_core.specs.Steps.{seen, moved, bounds_after}
+use Rattle.x86_core.proofs.Spreading.{low-small}
+use Rattle.x86_core.proofs.Stepping.{value_found, value_refused, load_found, load_refused, ends, moved_to, moved_stack, push_done, push_refused}
+use Rattle.x86_core.proofs.branches.jump_operand.Goals as goal
+
+pub returns-in_err-target-clause-row : goal.returns-in_err-target-clause-row
+returns-in_err-target-clause-row c s =
+    let p = err_from_is_err_and c.from_residual.result c.from_residual.ensures.1 in
+    value_refused s c.args.cpu.now c.args.m.now c.args.next 64 c.args.rm _ c.in_err-target.field-0.0 _ c.in_err-target.ensures.value (p.1 ∙ ap Err p.2)
+
+pub returns-clause-row : goal.returns-clause-row
+returns-clause-row c s =
+    let after : Cpu = record c.args.cpu.now { rip = c.in_ok-target.target } in
+    let row = value_found s c.args.cpu.now after c.args.m.now c.args.m.now c.args.next 64 c.args.rm _ c.in_ok-target.target (Ok c.args.done) c.in_ok-target.ensures.value
+    (ends s c.args.cpu.now after c.args.m.now _ c.args.done (moved_to s c.args.cpu.now c.args.done c.in_ok-target.target)) in
+    rw (c.go_to.ensures.cpu, c.go_to.ensures.done) row

@@ -1,0 +1,38 @@
+-- What a memory stands for, as a memory of the instruction table: bytes by address, and the frames of the pages that were written.
+use Rattle.std.specs.Prelude.{ℕ, nat_lt, if◌then◌else◌, List, Result, Ok, Err}
+use Rattle.mx_base.specs.Bounds.{full_bounds}
+use Rattle.mx_base.specs.Memory.{Bytes}
+use Rattle.paged_memory.specs.declared.stops.MemStop.{MemStop}
+use Rattle.paged_memory.specs.declared.stops.MemStop.TheVariants.{NoFrames}
+use Rattle.paged_memory.specs.Answers.{load_answer, store_answer}
+use Rattle.paged_memory.specs.Touched.{touched_by, frames_for}
+use Rattle.paged_memory.specs.Paged.{Paged, bytes_of, touched_of}
+use Rattle.x86_forms.specs.Requests.{Store}
+
+-- the byte at each address, the touched pages, and how many frames there are
+pub record Framed : Type 0 where
+  pub bytes : Bytes
+  pub touched : List ℕ
+  pub capacity : ℕ
+
+abbrev pub framed_of : Paged → Framed
+framed_of m = record { bytes = bytes_of m; touched = touched_of m; capacity = m.capacity }
+
+-- bytes that were written, if there are frames for the pages that are touched then
+abbrev pub framed_answer : Framed → List ℕ → Result Bytes MemStop → Result Framed MemStop
+framed_answer x touched (Ok bytes) =
+    if nat_lt x.capacity (frames_for touched) then Err (NoFrames (frames_for x.touched) x.capacity) else Ok (record { bytes = bytes; touched = touched; capacity = x.capacity })
+framed_answer x touched (Err stop) = Err stop
+
+unfoldable pub framed_write : Framed → ℕ → ℕ → ℕ → Result Framed MemStop
+framed_write x at size value = framed_answer x (touched_by size at x.touched) (store_answer size x.bytes at value)
+
+-- no plain instruction loads or keeps bounds
+abbrev pub framed : Store Framed MemStop
+framed = record {
+  read = λ x at size. load_answer size x.bytes at;
+  write = framed_write;
+  load = λ x at value. Ok (full_bounds, x);
+  keep = λ x at value b. Ok x;
+  status = λ stop before. before;
+}
