@@ -8,9 +8,9 @@ use Rattle.x86_forms.specs.declared.instr.Reg.{Reg}
 use Rattle.x86_forms.specs.declared.instr.Mem.{Mem}
 use Rattle.x86_forms.specs.declared.instr.Rm.{Rm}
 use Rattle.x86_forms.specs.declared.instr.Rm.TheVariants.{Reg as InReg, Mem as InMem}
-use Rattle.x86_forms.specs.Arithmetic.{Operation, Test, Imul, Not, Neg, low, signed, bits_of, is_negative, divided, divided_signed, holds}
+use Rattle.x86_forms.specs.Arithmetic.{Operation, Test, Imul, low, signed, bits_of, is_negative, divided_signed, holds}
 use Rattle.x86_forms.specs.Processor.{Processor, rax, rcx, rdx, rsp, r11, address, above_stack, branch_target}
-use Rattle.x86_forms.specs.Requests.{Program, Ends, Fails, Reads, Undefines}
+use Rattle.x86_forms.specs.Requests.{Ends, Fails, Reads, Undefines}
 use Rattle.x86_forms.specs.Table.{row, at_next, with_flags, with_result, with_stack, branched, reg_value, imm_value, value_then, written_to, pushed, operated, one_operand, quotient_kept, alu_operation, shift_operation}
 use Rattle.x86_core.specs.declared.cpu.Done.{Done}
 use Rattle.x86_core.specs.declared.cpu.Done.TheVariants.{Next, Branch}

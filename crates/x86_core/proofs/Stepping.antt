@@ -1,11 +1,11 @@
 -- Requests to a memory of frames, by what the memory answers.
 use Rattle.std.proofs.Common.{◌≡◌, ℕ, ◌<◌, ◌≤◌, Bool, true, false, nat_lt, List, length, refl, sym, ap, ◌∙◌, arith}
-use Rattle.std.specs.Prelude.{Result, Ok, Err, IsOk, Option, Some, None, if◌then◌else◌, slice_index}
+use Rattle.std.specs.Prelude.{Result, Ok, Err, IsOk, Option, Some, None, slice_index}
 use Rattle.std.proofs.lemmas.Bool.{cond-true, cond-false, lt-ltb, le-ltb}
 use Rattle.mx_base.specs.Memory.{Bytes}
 use Rattle.paged_memory.specs.declared.stops.MemStop.{MemStop}
 use Rattle.paged_memory.specs.declared.stops.MemStop.TheVariants.{Unmapped, NoFrames}
-use Rattle.paged_memory.specs.Answers.{load_answer, store_answer, Writes as WritesIn, Touches, IsShort}
+use Rattle.paged_memory.specs.Answers.{load_answer, store_answer, Writes as WritesIn, Touches}
 use Rattle.paged_memory.specs.Touched.{touched_by, frames_for}
 use Rattle.paged_memory.specs.Paged.{Paged, bytes_of, touched_of}
 use Rattle.x86_forms.specs.declared.instr.Rm.{Rm}
@@ -15,7 +15,7 @@ use Rattle.x86_forms.specs.declared.instr.Mem.{Mem as Operand}
 use Rattle.x86_forms.specs.Arithmetic.{low, Operation, writes_result, result_of, no_flags}
 use Rattle.x86_forms.specs.Processor.{Processor, address, bytes_in, rax, rdx, rsp, with_reg, below_stack}
 use Rattle.x86_alu.specs.Alu.{flags_in}
-use Rattle.x86_forms.specs.Requests.{Program, Ends, Fails, Reads, Writes, Undefines, Outcome, Done, Refused, run, refused_with, either_way}
+use Rattle.x86_forms.specs.Requests.{Program, Ends, Fails, Reads, Writes, Undefines, Done, Refused, run, either_way}
 use Rattle.x86_forms.specs.declared.instr.Instr.{Instr}
 use Rattle.x86_forms.specs.Table.{row, value_then, written_to, with_result, with_flags, with_flags_after, at_next, operated, quotient_kept, with_stack, pushed}
 use Rattle.x86_core.specs.Framed.{Framed, framed, framed_of, framed_answer, framed_write}

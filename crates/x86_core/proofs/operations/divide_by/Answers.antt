@@ -1,6 +1,6 @@
-use Rattle.std.proofs.Common.{◌≡◌, ◌∙◌, ap, sym}
+use Rattle.std.proofs.Common.{◌∙◌, ap, sym}
 use Rattle.x86_forms.specs.Arithmetic.{no_flags}
-use Rattle.x86_forms.specs.Processor.{rax, rdx, with_part}
+use Rattle.x86_forms.specs.Processor.{rdx, with_part}
 use Rattle.x86_core.specs.Steps.{seen}
 use Rattle.x86_core.proofs.Spreading.{low-small}
 use Rattle.x86_core.proofs.Stepping.{divided_none, divided_some}

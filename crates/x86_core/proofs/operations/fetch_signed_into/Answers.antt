@@ -1,7 +1,6 @@
-use Rattle.std.proofs.Common.{◌≡◌, ◌∙◌, ap, sym}
+use Rattle.std.proofs.Common.{◌∙◌, ap, sym}
 use Rattle.std.specs.Prelude.{Ok, Err}
 use Rattle.std.proofs.lemmas.Result.{err_from_is_err_and}
-use Rattle.x86_forms.specs.Table.{at_next, with_result}
 use Rattle.x86_core.specs.declared.cpu.Done.TheVariants.{Next}
 use Rattle.x86_core.specs.declared.cpu.Cpu.{Cpu}
 use Rattle.x86_core.specs.Steps.{seen}

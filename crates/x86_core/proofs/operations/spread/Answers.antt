@@ -1,4 +1,4 @@
-use Rattle.std.proofs.Common.{◌≡◌, ◌-◌, ◌^◌, ◌<◌, ◌≤◌, ◌∙◌, arith}
+use Rattle.std.proofs.Common.{◌-◌, ◌^◌, ◌<◌, ◌≤◌, ◌∙◌, arith}
 use Rattle.x86_core.proofs.Spreading.{spread-low, spread-high}
 use Rattle.x86_core.proofs.operations.spread.Goals as goal
 

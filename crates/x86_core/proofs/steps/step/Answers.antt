@@ -1,13 +1,12 @@
-use Rattle.std.proofs.Common.{◌≡◌, ℕ, ◌+◌, ◌%◌, ◌^◌, refl, sym, ap, ◌∙◌, FitsSigned, rules}
+use Rattle.std.proofs.Common.{◌+◌, ◌%◌, ◌^◌, refl, ap, ◌∙◌, FitsSigned, rules}
 use Rattle.std.specs.Prelude.{Ok, Err, if◌then◌else◌}
 use Rattle.std.specs.Int.{w32, w64}
 use Rattle.std.proofs.lemmas.Int.{to_z-of_z}
 use Rattle.x86_forms.specs.Processor.{branch_target}
 use Rattle.x86_forms.specs.Table.{imm_value}
 use Rattle.x86_core.specs.declared.cpu.CoreStop.TheVariants.{Undefined}
-use Rattle.x86_forms.specs.declared.instr.Instr.TheVariants as i
 use Rattle.x86_core.specs.declared.cpu.Done.TheVariants.{Next, Service}
-use Rattle.x86_core.specs.Steps.{BoundsState, seen}
+use Rattle.x86_core.specs.Steps.{seen}
 use Rattle.x86_core.proofs.Stepping.{rowed, went, ends, fails}
 use Rattle.x86_core.proofs.Rows as rows
 use Rattle.x86_core.proofs.steps.step.Goals as goal
