@@ -1,16 +1,16 @@
-//! Registers, addresses, and operands in registers and memory.
+//! Registers, and operands in registers and memory.
 ghost use Rattle.std.specs.Prelude.{◌≡◌, ◌<◌, ◌%◌, ◌^◌, IsTrue, IfOk, OnErr, slice_index};
 ghost use Rattle.paged_memory.specs.Paged.{bytes_of};
 ghost use Rattle.paged_memory.specs.Answers.{is_width, load_answer};
 ghost use Rattle.x86_forms.specs.Arithmetic.{low as low_bits};
-ghost use Rattle.x86_forms.specs.Processor.{address, base_value, index_value, part_written, with_part, with_reg, rsp};
-ghost use Rattle.x86_forms.specs.Validity.{mem_ok, base_ok, index_ok, rm_ok, width_ok};
+ghost use Rattle.x86_forms.specs.Processor.{part_written, with_part, with_reg, rsp};
+ghost use Rattle.x86_forms.specs.Validity.{rm_ok, width_ok};
 ghost use Rattle.x86_core.specs.Framed.{framed_of, framed_write};
 ghost use Rattle.x86_core.specs.Steps.{core_answer, operand_value, StoresAs};
 
 use crate::cpu::CoreStop;
 use paged_memory::Memory;
-use x86_forms::{Base, Mem, Reg, Rm};
+use x86_forms::{Reg, Rm, address_of};
 
 /// The low `w` bits.
 pub fn low(w: u8, v: u64) -> u64
@@ -24,38 +24,6 @@ pub fn low(w: u8, v: u64) -> u64
         32 => v % 0x1_0000_0000,
         _ => v,
     }
-}
-
-fn base_of(regs: &[u64; 16], next: u64, base: Base, index: Option<(Reg, u8)>) -> u64
-    requires { IsTrue (base_ok base index) }
-    ensures { result ≡ base_value (slice_index regs.now) next base }
-{
-    match base {
-        Base::None => 0,
-        Base::Reg(r) => regs[r.0 as usize],
-        Base::Rip => next,
-    }
-}
-
-fn index_of(regs: &[u64; 16], index: Option<(Reg, u8)>) -> u64
-    requires { IsTrue (index_ok index) }
-    ensures { result ≡ index_value (slice_index regs.now) index % 2 ^ 64 }
-{
-    match index {
-        None => 0,
-        Some((r, scale)) => regs[r.0 as usize].wrapping_mul(u64::from(scale)),
-    }
-}
-
-/// The address of a memory operand, `next` being the address of the next instruction.
-#[tactic(auto, unfolding(x86_forms::specs::Processor::address))]
-pub fn address_of(regs: &[u64; 16], next: u64, m: Mem) -> u64
-    requires { IsTrue (mem_ok m) }
-    ensures { result ≡ address (slice_index regs.now) next m }
-{
-    base_of(regs, next, m.base, m.index)
-        .wrapping_add(index_of(regs, m.index))
-        .wrapping_add(i64::from(m.disp).cast_unsigned())
 }
 
 /// What a register holds once `w` bits are written to it.

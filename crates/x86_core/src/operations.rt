@@ -11,10 +11,10 @@ ghost use Rattle.paged_memory.specs.Paged.{Paged};
 ghost use Rattle.x86_core.specs.Steps.{BoundsState, seen, Does, spreads, less_than_64, quotient};
 
 use crate::cpu::{CoreStop, Cpu, Done};
-use crate::operands::{address_of, low, set_register, store, value_of};
+use crate::operands::{low, set_register, store, value_of};
 use paged_memory::Memory;
 use x86_alu::{AluOp, Four, arith, divide};
-use x86_forms::{Reg, Rm};
+use x86_forms::{Reg, Rm, address_of};
 
 /// The `w` bits of a signed immediate.
 pub fn imm_value(w: u8, imm: i64) -> u64

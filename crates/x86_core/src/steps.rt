@@ -8,14 +8,14 @@ use crate::branches::{
     call_operand, enter_service, go_to, jump_operand, pop, pop_target, push, target_of,
 };
 use crate::cpu::{CoreStop, Cpu, Done};
-use crate::operands::{address_of, low};
+use crate::operands::low;
 use crate::operations::{
     alu_op, apply, fetch_into, fetch_signed_into, imm_value, operate, operate_onto, put, shift_op,
     widen,
 };
 use paged_memory::Memory;
 use x86_alu::{AluOp, holds};
-use x86_forms::{Instr, Rm};
+use x86_forms::{Instr, Rm, address_of};
 
 /// Whether an instruction isn't of MPX, so that `step` does it.
 pub fn plain(i: &Instr) -> bool
