@@ -1,0 +1,4 @@
+pub mod Layouts
+pub mod Shapes
+pub mod Sound
+pub mod Types
