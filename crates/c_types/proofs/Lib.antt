@@ -5,3 +5,5 @@ pub mod Reading
 pub mod ShapeKeys
 pub mod Steps
 pub mod Laying
+pub mod LawLemmas
+pub mod SameTypes

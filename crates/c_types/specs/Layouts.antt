@@ -1,6 +1,6 @@
 -- Sizes, alignments and the offsets of members, as C's types have them on this machine: a scalar's alignment is its size, the members of a
 -- struct stand in order, each at the next multiple of its alignment, and the struct's size is rounded up to its alignment.
-use Rattle.std.specs.Prelude.{◌≡◌, ℕ, ◌+◌, ◌-◌, ◌*◌, ◌/◌, ◌<◌, ◌≤◌, List, [], ◌∷◌, ◌==◌, if◌then◌else◌, map, max, slice_index}
+use Rattle.std.specs.Prelude.{◌≡◌, ℕ, ◌+◌, ◌-◌, ◌*◌, ◌/◌, ◌<◌, ◌≤◌, List, [], ◌∷◌, ◌==◌, if◌then◌else◌, map, max, slice_index, slice_index_or}
 use Rattle.mx_base.specs.declared.numbers.IntKind.{IntKind}
 use Rattle.mx_base.specs.declared.numbers.IntKind.TheVariants.{I8, U8, I16, U16, I32, U32, I64, U64}
 use Rattle.c_types.specs.declared.shape.TypeId.{TypeId}
@@ -77,6 +77,9 @@ align_of table t = (layout_at table t).align
 -- the layouts of a struct's members, and where they stand
 abbrev pub member_layouts : Types → TypeId → List Layout
 member_layouts table t = map (layout_of (structs_of table)) (members_at table t)
+
+abbrev pub member_layout : Types → TypeId → ℕ → Layout
+member_layout table t member = slice_index_or (member_layouts table t) member no_layout
 
 abbrev pub offset_of : Types → TypeId → ℕ → ℕ
 offset_of table t member = slice_index (offsets_from 0 (member_layouts table t)) member

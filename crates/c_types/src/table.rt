@@ -1,8 +1,9 @@
 //! The table of types.
 
 ghost use Rattle.std.specs.Prelude.{◌≡◌, ℕ, ◌+◌, ◌^◌, ◌<◌, ◌≤◌, true, false, ◌∷◌, [], ◌++◌, IfOk, OnOk, OnErr, IfSome, IfNone, All, map, length, slice_get, Some};
-ghost use Rattle.c_types.specs.Types.{no_types, AllDiffer, IsNew, structs_of, type_at, built, is_ended, members_of, members_at, IsIn, HasSize};
-ghost use Rattle.c_types.specs.Layouts.{CanBuild, CanStand, Extends, layout_at, layout_of, layout_of_struct, size_of, align_of, offset_of, offsets_from, struct_layout};
+ghost use Rattle.c_types.specs.declared.shape.TypeId.{TypeId as Numbered};
+ghost use Rattle.c_types.specs.Types.{Struct, no_types, AllDiffer, IsNew, structs_of, type_at, built, is_ended, members_of, members_at, IsIn, HasSize};
+ghost use Rattle.c_types.specs.Layouts.{CanBuild, CanStand, Extends, layout_at, layout_of, layout_of_struct, size_of, member_layout, member_layouts, align_of, offset_of, offsets_from, struct_layout};
 ghost use Rattle.c_types.specs.Sound.{kept_of};
 
 use crate::layout::{Layout, StructLayout, bytes_of, round_up, scalar_layout, unsized_layout};
@@ -184,6 +185,21 @@ impl TypeTable {
             Shape::Struct(number) => self.laid(number).offsets[member as usize],
             _ => unreachable!(),
         }
+    }
+
+    /// Law of every table: a struct is laid out by the layouts of its members, which all lie within its size.
+    pub fn structs_hold_their_members(&self)
+        ensures by_members { (t : Numbered) (number : ℕ) → IsIn self.now t → type_at self.now t ≡ Struct number → HasSize self.now t → layout_at self.now t ≡ struct_layout (member_layouts self.now t) }
+        ensures within { (t : Numbered) (member : ℕ) → IsIn self.now t → member < length (members_at self.now t) → offset_of self.now t member + (member_layout self.now t member).size ≤ size_of self.now t }
+    {
+        let _invariant = &self.shapes;
+    }
+
+    /// Law of every table: two numbers are one where their types are the same.
+    pub fn same_types_have_one_number(&self)
+        ensures { (a b : Numbered) → IsIn self.now a → IsIn self.now b → type_at self.now a ≡ type_at self.now b → a ≡ b }
+    {
+        let _invariant = &self.shapes;
     }
 
     fn layout(&self, t: TypeId) -> Layout
