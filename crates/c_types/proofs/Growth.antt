@@ -129,7 +129,7 @@ names-begun begun n (s.Pointer target) h = h
 names-begun begun n (s.Array element count) h = h
 names-begun begun n (s.Struct number) h = omega arith
 
-absent-from : (begun n : ℕ) (table : Types) (es : List Ended) (number : ℕ) → AllByRecursion (IsEndedIn begun n) es → begun ≤ number → is_ended (map (typed table) es) number ≡ false
+pub absent-from : (begun n : ℕ) (table : Types) (es : List Ended) (number : ℕ) → AllByRecursion (IsEndedIn begun n) es → begun ≤ number → is_ended (map (typed table) es) number ≡ false
 absent-from begun n table [] number all h = refl
 absent-from begun n table (e ∷ es) number all h =
     let other : eqb e.number number ≡ false = by (eqb e.number number) refl in

@@ -1,7 +1,8 @@
 -- The steps of a table's fields.
-use Rattle.std.proofs.Common.{◌≡◌, ℕ, ◌<◌, false, List, [], ◌∷◌, ◌++◌, map, reverse, length, set, refl, ap, sym, ◌∙◌, subst, arith, Option, None, Some, slice_get}
+use Rattle.std.proofs.Common.{◌≡◌, ℕ, ◌<◌, false, List, [], ◌∷◌, ◌++◌, map, reverse, length, set, refl, ap, sym, ◌∙◌, subst, arith, Option, None, Some, slice_get, eqb, cond, ◌||◌, true}
 use Rattle.std.proofs.lemmas.List.{length_push, get_or_push, length-set, map_push, reverse-append}
 use Rattle.std.proofs.lemmas.Option.{slice_get-get_or}
+use borrow.Author.Tests.{eq-eqb}
 use Rattle.std.proofs.lemmas.List.Elements.{recursion_from_All}
 use Rattle.std.specs.List.{AllByRecursion, All}
 use Rattle.indexmap.specs.IndexMap.{insert_entry}
@@ -13,10 +14,10 @@ use Rattle.c_types.specs.declared.shape.TypeId.{TypeId}
 use Rattle.c_types.specs.declared.shape.Shape.{Shape}
 use Rattle.c_types.specs.declared.layout.Layout.{Layout}
 use Rattle.c_types.specs.declared.layout.StructLayout.{StructLayout}
-use Rattle.c_types.specs.Types.{Ended, Types, IsNew, built, type_at, structs_of, is_ended}
+use Rattle.c_types.specs.Types.{Ended, Types, IsNew, built, type_at, structs_of, is_ended, is_given, members_of, members_in, members_at, has_size, HasSize, Struct, CType, StructType}
 use Rattle.c_types.specs.Layouts.{layout_of, layout_at, struct_layout, offsets_from, CanStand, CanBuild, Extends}
 use Rattle.c_types.specs.Sound.{table_of, kept_of, IsSound}
-use Rattle.c_types.proofs.Growth.{with_shape, with_begun, with_members, sound-shape, sound-begun, sound-members}
+use Rattle.c_types.proofs.Growth.{absent-from, with_shape, with_begun, with_members, sound-shape, sound-begun, sound-members}
 
 module _ (entries : List (Shape × Layout)) (structs : List (Option StructLayout)) (ended : List Ended) (sound : IsSound (table_of entries structs ended) (values_of entries) structs) where
   abbrev table : Types
@@ -88,28 +89,57 @@ module _ (entries : List (Shape × Layout)) (structs : List (Option StructLayout
       (λ can fresh kept. subst (λ n. IsAdded n structs ended (table_of entries structs ended) shape) (sym (inserted ∙ insert-new entries shape l fresh)) (added-here can fresh kept))
       can fresh kept
 
+given-ended : (at : TypeId → CType) (es : List Ended) (number : ℕ) → is_given es number ≡ is_ended (map (λ (e : Ended). let s : StructType = record { number = e.number; members = map at e.members } in s) es) number
+given-ended at [] number = refl
+given-ended at (e ∷ es) number = ap (λ b. eqb e.number number || b) (given-ended at es number)
+
+-- whether a struct was given its members, as the types of structs tell it
+pub given-is : (table : Types) (number : ℕ) → is_given table.ended number ≡ is_ended (structs_of table) number
+given-is table number = given-ended (type_at table) table.ended number
+
+-- a struct that was just begun is open
+pub open-begun : (table : Types) (kept : List Layout) (structs : List (Option StructLayout)) → IsSound table kept structs → is_given table.ended table.begun ≡ false
+open-begun table kept structs sound = given-is table table.begun ∙ absent-from table.begun (length table.shapes) table table.ended table.begun sound.ended_in (omega arith)
+
+-- a struct that was just given its members has them
+module _ (table : Types) (number : ℕ) (members : List TypeId) where
+  itself : eqb number number ≡ true
+  itself = eq-eqb number number refl
+
+  pub sized-given : (t : TypeId) → type_at table t ≡ Struct number → HasSize (with_members table number members) t
+  sized-given t is = ap (has_size (structs_of (with_members table number members))) is ∙ ap (λ b. b || is_ended (structs_of table) number) itself
+
+  pub members-given : (t : TypeId) → type_at table t ≡ Struct number → members_at (with_members table number members) t ≡ map (type_at table) members
+  members-given t is = ap (members_in (structs_of (with_members table number members))) is ∙ ap (λ b. cond b (map (type_at table) members) (members_of (structs_of table) number)) itself
+
 -- what a table says once a struct is given its members
-pub record IsGiven (entries : List (Shape × Layout)) (structs : List (Option StructLayout)) (ended : List Ended) (now : Types) : Type 0 where
+pub record IsGiven (entries : List (Shape × Layout)) (structs : List (Option StructLayout)) (ended : List Ended) (now : Types) (number : ℕ) (members : List TypeId) : Type 0 where
   pub sound : IsSound (table_of entries structs ended) (values_of entries) structs
   pub extends : Extends now (table_of entries structs ended)
+  pub sized : (t : TypeId) → type_at (table_of entries structs ended) t ≡ Struct number → HasSize (table_of entries structs ended) t
+  pub has_members : (t : TypeId) → type_at (table_of entries structs ended) t ≡ Struct number → members_at (table_of entries structs ended) t ≡ map (type_at (table_of entries structs ended)) members
 
 module _ (entries : List (Shape × Layout)) (structs : List (Option StructLayout)) (ended : List Ended) (sound : IsSound (table_of entries structs ended) (values_of entries) structs) (laid : StructLayout) where
   given-here : (e : Ended) → e.number < length structs → is_ended (structs_of (table_of entries structs ended)) e.number ≡ false → All (CanStand (table_of entries structs ended)) e.members
       → laid.layout ≡ struct_layout (map (layout_at (table_of entries structs ended)) e.members) → laid.offsets.items ≡ offsets_from 0 (map (layout_at (table_of entries structs ended)) e.members)
-      → IsGiven entries (set structs e.number (Some laid)) (ended ++ e ∷ []) (table_of entries structs ended)
+      → IsGiven entries (set structs e.number (Some laid)) (ended ++ e ∷ []) (table_of entries structs ended) e.number e.members
   given-here e begun absent can layout offsets = record {
     sound = step-members entries structs ended sound e laid begun absent (recursion_from_All (CanStand (table_of entries structs ended)) e.members can) layout offsets;
     extends = subst (Extends (table_of entries structs ended)) (sym (members-is entries structs ended sound e (Some laid)))
         (extends-members (table_of entries structs ended) (values_of entries) structs sound e.number e.members absent);
+      sized = subst (λ table. (t : TypeId) → type_at table t ≡ Struct e.number → HasSize table t) (sym (members-is entries structs ended sound e (Some laid)))
+        (sized-given (table_of entries structs ended) e.number e.members);
+      has_members = subst (λ table. (t : TypeId) → type_at table t ≡ Struct e.number → members_at table t ≡ map (type_at table) e.members) (sym (members-is entries structs ended sound e (Some laid)))
+        (members-given (table_of entries structs ended) e.number e.members);
   }
 
   pub given : (number : ℕ) (members kept : List TypeId) (new : List Ended) (now : Types) → table_of entries structs ended ≡ now → number < now.begun → is_ended (structs_of now) number ≡ false
       → All (CanStand now) members → laid.layout ≡ struct_layout (map (layout_at now) members) → laid.offsets.items ≡ offsets_from 0 (map (layout_at now) members)
-      → kept ≡ members → new ≡ ended ++ record { number = number; members = kept } ∷ [] → IsGiven entries (set structs number (Some laid)) new now
+      → kept ≡ members → new ≡ ended ++ record { number = number; members = kept } ∷ [] → IsGiven entries (set structs number (Some laid)) new now number members
   given number members kept new now view begun absent can layout offsets same pushed =
       subst (λ now. number < now.begun → is_ended (structs_of now) number ≡ false → All (CanStand now) members → laid.layout ≡ struct_layout (map (layout_at now) members)
-      → laid.offsets.items ≡ offsets_from 0 (map (layout_at now) members) → IsGiven entries (set structs number (Some laid)) new now) view
-      (λ begun absent can layout offsets. subst (λ n. IsGiven entries (set structs number (Some laid)) n (table_of entries structs ended))
+      → laid.offsets.items ≡ offsets_from 0 (map (layout_at now) members) → IsGiven entries (set structs number (Some laid)) new now number members) view
+      (λ begun absent can layout offsets. subst (λ n. IsGiven entries (set structs number (Some laid)) n (table_of entries structs ended) number members)
       (sym (pushed ∙ ap (λ ms. let e : Ended = record { number = number; members = ms } in ended ++ e ∷ []) same))
       (given-here (record { number = number; members = members }) begun absent can layout offsets))
       begun absent can layout offsets

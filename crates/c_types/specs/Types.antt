@@ -59,6 +59,15 @@ type_at table t = slice_index_or (types_of table.shapes) t.0 Void
 abbrev pub structs_of : Types → List StructType
 structs_of table = map (λ e. record { number = e.number; members = map (type_at table) e.members }) table.ended
 
+-- whether a struct was given its members
+abbrev pub is_given : List Ended → ℕ → Bool
+is_given [] number = false
+is_given (e ∷ earlier) number = (e.number == number) || is_given earlier number
+
+-- a struct that was begun and not yet given its members
+abbrev pub IsOpen : Types → ℕ → Type 0
+IsOpen table number = (number < table.begun) × (is_given table.ended number ≡ false)
+
 abbrev pub IsIn : Types → TypeId → Type 0
 IsIn table t = t.0 < length table.shapes
 

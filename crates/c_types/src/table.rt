@@ -2,7 +2,7 @@
 
 ghost use Rattle.std.specs.Prelude.{◌≡◌, ℕ, ◌+◌, ◌^◌, ◌<◌, ◌≤◌, true, false, ◌∷◌, [], ◌++◌, IfOk, OnOk, OnErr, IfSome, IfNone, All, map, length, slice_get, Some};
 ghost use Rattle.c_types.specs.declared.shape.TypeId.{TypeId as Numbered};
-ghost use Rattle.c_types.specs.Types.{Struct, no_types, AllDiffer, IsNew, structs_of, type_at, built, is_ended, members_of, members_at, IsIn, HasSize};
+ghost use Rattle.c_types.specs.Types.{Struct, no_types, IsOpen, AllDiffer, IsNew, structs_of, type_at, built, is_ended, members_of, members_at, IsIn, HasSize};
 ghost use Rattle.c_types.specs.Layouts.{CanBuild, CanStand, Extends, layout_at, layout_of, layout_of_struct, size_of, member_layout, member_layouts, align_of, offset_of, offsets_from, struct_layout};
 ghost use Rattle.c_types.specs.Sound.{kept_of};
 
@@ -80,6 +80,7 @@ impl TypeTable {
         requires { self.old.begun < 4294967295 }
         ensures number { IfOk result (λ number. number ≡ self.old.begun) }
         ensures begun { OnOk result (self.new ≡ record self.old { begun = self.old.begun + 1 }) }
+        ensures unfinished { IfOk result (λ number. IsOpen self.new number) }
         ensures err { OnErr result (self.new ≡ self.old) }
         ensures extends { Extends self.old self.new }
     {
@@ -90,12 +91,13 @@ impl TypeTable {
 
     /// Gives a struct that was begun its members. For want of memory nothing changes.
     pub fn end_struct(&mut self, s: u32, members: &[TypeId]) -> Result<(), OutOfMemory>
-        requires begun { s < self.old.begun }
-        requires once { is_ended (structs_of self.old) s ≡ false }
+        requires unfinished { IsOpen self.old s }
         requires members { All (CanStand self.old) members.now }
         requires some { 1 ≤ length members.now }
         requires few { length members.now ≤ 32768 }
         ensures ended { OnOk result (self.new ≡ record self.old { ended = record { number = s; members = members.now } ∷ self.old.ended }) }
+        ensures sized { OnOk result ((t : Numbered) → type_at self.new t ≡ Struct s → HasSize self.new t) }
+        ensures members { OnOk result ((t : Numbered) → type_at self.new t ≡ Struct s → members_at self.new t ≡ map (type_at self.new) members.now) }
         ensures err { OnErr result (self.new ≡ self.old) }
         ensures extends { Extends self.old self.new }
     {
@@ -115,6 +117,8 @@ impl TypeTable {
         ensures added { IfOk result (λ t. length self.old.shapes ≤ t.0 → self.new ≡ record self.old { shapes = self.old.shapes ++ s ∷ [] }) }
         ensures once { OnOk result (AllDiffer self.new.shapes) }
         ensures means { IfOk result (λ t. type_at self.new t ≡ built (type_at self.new) s) }
+        ensures more { length self.new.shapes ≤ length self.old.shapes + 1 }
+        ensures structs { (self.new.begun ≡ self.old.begun) × (self.new.ended ≡ self.old.ended) }
         ensures err { OnErr result (self.new ≡ self.old) }
         ensures extends { Extends self.old self.new }
     {
