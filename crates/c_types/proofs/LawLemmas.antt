@@ -1,18 +1,17 @@
 -- The laws of sizes, alignments and offsets.
-use Rattle.std.proofs.Common.{◌≡◌, ℕ, ◌+◌, ◌-◌, ◌*◌, ◌/◌, ◌%◌, ◌<◌, ◌≤◌, max, Bool, true, false, eqb, cond, List, [], ◌∷◌, map, length, get_or, zero, suc, refl, ap, sym, ◌∙◌, subst, arith, Option, Some, slice_get}
-use Rattle.std.proofs.Math.Nat.{div-mul-le_self, lt-div-mul-add, mul-mod_left, div-le_of_le-mul, mod-eq-sub-div-mul, div-add-mod, mul_assoc, mul-mod_right}
+use Rattle.std.proofs.Common.{◌≡◌, ℕ, ◌+◌, ◌-◌, ◌*◌, ◌/◌, ◌%◌, ◌<◌, ◌≤◌, Bool, true, false, eqb, cond, List, [], ◌∷◌, map, length, get_or, zero, suc, refl, ap, sym, ◌∙◌, subst, arith, Option}
+use Rattle.std.proofs.Math.Nat.{lt-div-mul-add, mul-mod_left, div-add-mod, mul_assoc, mul-mod_right}
 use Rattle.std.proofs.lemmas.List.{length-map}
-use Rattle.std.proofs.lemmas.Option.{slice_get-get_or}
 use Rattle.std.specs.List.{AllByRecursion}
 use Rattle.mx_base.specs.declared.numbers.IntKind.{IntKind}
 use Rattle.mx_base.specs.declared.numbers.IntKind.TheVariants.{I8, U8, I16, U16, I32, U32, I64, U64}
 use Rattle.c_types.specs.declared.shape.TypeId.{TypeId}
 use Rattle.c_types.specs.declared.layout.Layout.{Layout}
 use Rattle.c_types.specs.declared.layout.StructLayout.{StructLayout}
-use Rattle.c_types.specs.Types.{CType, Void, Int, Pointer, Array, Struct, StructType, Types, types_of, type_at, structs_of, is_ended, members_of, members_at, members_in, has_size, IsIn, HasSize}
+use Rattle.c_types.specs.Types.{CType, Void, Int, Pointer, Array, Struct, StructType, Types, type_at, structs_of, is_ended, members_at, members_in, has_size, HasSize}
 use Rattle.c_types.specs.Layouts.{width, next_multiple, offsets_from, end_from, widest, struct_layout, layout_by, layout_of, layout_of_struct, layout_at, member_layouts, member_layout, no_layout, offset_of, size_of}
 use Rattle.c_types.specs.Sound.{IsSound}
-use Rattle.c_types.proofs.LayoutLemmas.{IsAligned, layout-aligned, all-layouts-aligned, widest-aligned, struct-laid}
+use Rattle.c_types.proofs.LayoutLemmas.{IsAligned, all-layouts-aligned, widest-aligned, struct-laid}
 use Rattle.c_types.proofs.Laying.{ended-of-member}
 
 next-multiple : (n align : ℕ) → next_multiple n align % align ≡ 0
@@ -129,4 +128,4 @@ module _ (table : Types) (kept : List Layout) (structs : List (Option StructLayo
   pub members-within : (t : TypeId) (member : ℕ) → member < length (members_at table t) → offset_of table t member + (member_layout table t member).size ≤ size_of table t
   members-within t member h =
       subst (λ (l : Layout). offset_of table t member + (member_layout table t member).size ≤ l.size) (sym (is-struct t member h))
-        (within-struct (member_layouts table t) member (members-aligned table t) (members-counted table t member h))
+      (within-struct (member_layouts table t) member (members-aligned table t) (members-counted table t member h))

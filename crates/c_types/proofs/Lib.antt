@@ -7,3 +7,4 @@ pub mod Steps
 pub mod Laying
 pub mod LawLemmas
 pub mod SameTypes
+pub mod Standing

@@ -1,5 +1,5 @@
 -- Two numbers of one type are one.
-use Rattle.std.proofs.Common.{◌≡◌, ℕ, ◌<◌, ◌≤◌, List, length, get_or, refl, ap, sym, ◌∙◌, subst, arith, Option, Some, slice_get}
+use Rattle.std.proofs.Common.{◌≡◌, ℕ, ◌<◌, List, get_or, refl, ap, sym, ◌∙◌, subst, arith, Option, Some, slice_get}
 use Rattle.std.proofs.lemmas.Option.{slice_get-get_or}
 use Rattle.mx_base.specs.declared.numbers.IntKind.{IntKind}
 use Rattle.c_types.specs.declared.shape.TypeId.{TypeId}

@@ -127,9 +127,9 @@ module _ (entries : List (Shape × Layout)) (structs : List (Option StructLayout
     sound = step-members entries structs ended sound e laid begun absent (recursion_from_All (CanStand (table_of entries structs ended)) e.members can) layout offsets;
     extends = subst (Extends (table_of entries structs ended)) (sym (members-is entries structs ended sound e (Some laid)))
         (extends-members (table_of entries structs ended) (values_of entries) structs sound e.number e.members absent);
-      sized = subst (λ table. (t : TypeId) → type_at table t ≡ Struct e.number → HasSize table t) (sym (members-is entries structs ended sound e (Some laid)))
+    sized = subst (λ table. (t : TypeId) → type_at table t ≡ Struct e.number → HasSize table t) (sym (members-is entries structs ended sound e (Some laid)))
         (sized-given (table_of entries structs ended) e.number e.members);
-      has_members = subst (λ table. (t : TypeId) → type_at table t ≡ Struct e.number → members_at table t ≡ map (type_at table) e.members) (sym (members-is entries structs ended sound e (Some laid)))
+    has_members = subst (λ table. (t : TypeId) → type_at table t ≡ Struct e.number → members_at table t ≡ map (type_at table) e.members) (sym (members-is entries structs ended sound e (Some laid)))
         (members-given (table_of entries structs ended) e.number e.members);
   }
 

@@ -1,4 +1,4 @@
-use Rattle.std.proofs.Common.{ap, length-append, reverse, subst, sym, arith, length, false, ◌≡◌, ℕ}
+use Rattle.std.proofs.Common.{ap, length-append, reverse, subst, sym, arith, length, false, ◌≡◌}
 use Rattle.std.specs.Map.{values_of}
 use Rattle.c_types.specs.Types.{is_given}
 use Rattle.c_types.specs.Sound.{table_of}
@@ -13,6 +13,7 @@ pub returns-clause-unfinished : goal.returns-clause-unfinished
 returns-clause-unfinished c =
     let i = c.self.inside in
     let table = table_of i.shapes.entries i.structs.items i.ended.items in
-    let long : c.len-number.result ≡ length i.structs.items = omega (arith, c.len-number.ensures, i.structs.ok) in
-    ( omega (arith, long, simp length-append at (ap length c.in_ok-push.ensures.items))
-    , subst (λ n. is_given (reverse i.ended.items) n ≡ false) (sym long) (open-begun table (values_of i.shapes.entries) i.structs.items c.self.invariant) )
+    let long : c.len-number.result ≡ length i.structs.items = omega (arith, c.len-number.ensures, i.structs.ok) in (
+      omega (arith, long, simp length-append at (ap length c.in_ok-push.ensures.items)),
+      subst (λ n. is_given (reverse i.ended.items) n ≡ false) (sym long) (open-begun table (values_of i.shapes.entries) i.structs.items c.self.invariant),
+    )

@@ -1,4 +1,4 @@
-use Rattle.std.proofs.Common.{refl, sym}
+use Rattle.std.proofs.Common.{refl}
 use Rattle.std.specs.Map.{values_of}
 use Rattle.c_types.specs.Types.{type_at}
 use Rattle.c_types.specs.Sound.{table_of}
