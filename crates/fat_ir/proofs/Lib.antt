@@ -1,0 +1,6 @@
+mod Judgements
+mod Lists
+mod Quiet
+mod Rooms
+mod Runs
+mod Worlds
