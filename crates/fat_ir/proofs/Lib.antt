@@ -3,4 +3,4 @@ mod Lists
 mod Quiet
 mod Rooms
 mod Runs
-mod Worlds
+pub mod Worlds

@@ -33,17 +33,17 @@ fewer = record {
 -- ---- output
 
 -- a list that begins with another
-record Begins {A : Type 0} (before after : List A) : Type 0 where
-  more : List A
-  is : after ≡ before ++ more
+pub record Begins {A : Type 0} (before after : List A) : Type 0 where
+  pub more : List A
+  pub is : after ≡ before ++ more
 
-begins-same : {A : Type 0} (xs : List A) → Begins xs xs
+pub begins-same : {A : Type 0} (xs : List A) → Begins xs xs
 begins-same xs = record { more = []; is = sym (append-nil xs) }
 
-begins-join : {A : Type 0} (xs ys zs : List A) → Begins xs ys → Begins ys zs → Begins xs zs
+pub begins-join : {A : Type 0} (xs ys zs : List A) → Begins xs ys → Begins ys zs → Begins xs zs
 begins-join xs ys zs h g = record { more = h.more ++ g.more; is = g.is ∙ ap (λ us. us ++ g.more) h.is ∙ append_assoc xs h.more g.more }
 
-begins-more : {A : Type 0} (xs ys : List A) → Begins xs (xs ++ ys)
+pub begins-more : {A : Type 0} (xs ys : List A) → Begins xs (xs ++ ys)
 begins-more xs ys = record { more = ys; is = refl }
 
 abbrev AnsweredLonger : List ℕ → Served Refusal → Type 0
@@ -74,7 +74,7 @@ services-put m refused Get word g = got g g.input
 services-put m refused StackOver word g = tt
 services-put m refused NoService word g = begins-same g.out
 
-served-longer : (w : World) (number word answer : ℕ) (g : Guest) → served_in_c number word w ≡ Answers answer g → Begins w.guest.out g.out
+pub served-longer : (w : World) (number word answer : ℕ) (g : Guest) → served_in_c number word w ≡ Answers answer g → Begins w.guest.out g.out
 served-longer w number word answer g e = let P : Served Refusal → Type 0 = AnsweredLonger w.guest.out in subst P e (services-put w.bytes _ (c_service number) word w.guest)
 
 output : (w u : World) → Begins w.guest.out u.guest.out → OutputGrows w u
@@ -131,15 +131,15 @@ accesses_framed w sp = accesses w _ (begins-same w.accesses)
 
 -- ---- accesses and the bytes that they wrote
 
-none-refused : (xs ys : List Access) → NoneRefused xs → NoneRefused ys → NoneRefused (xs ++ ys)
+pub none-refused : (xs ys : List Access) → NoneRefused xs → NoneRefused ys → NoneRefused (xs ++ ys)
 none-refused [] ys h g = g
 none-refused (x ∷ xs) ys h g = (h.0, none-refused xs ys h.1 g)
 
-not-front : (x : ℕ) (xs ys : List Access) → NotWritten x (xs ++ ys) → NotWritten x xs
+pub not-front : (x : ℕ) (xs ys : List Access) → NotWritten x (xs ++ ys) → NotWritten x xs
 not-front x [] ys h = tt
 not-front x (a ∷ xs) ys h = (h.0, not-front x xs ys h.1)
 
-not-back : (x : ℕ) (xs ys : List Access) → NotWritten x (xs ++ ys) → NotWritten x ys
+pub not-back : (x : ℕ) (xs ys : List Access) → NotWritten x (xs ++ ys) → NotWritten x ys
 not-back x [] ys h = h
 not-back x (a ∷ xs) ys h = not-back x xs ys h.1
 
@@ -157,7 +157,7 @@ traced_join w u v h g = record {
 read_traced : (w : World) (n a : ℕ) → refusal false n a ≡ None → Traced w (read_noted n w a)
 read_traced w n a e = record { more = record { write = false; at = a; size = n } ∷ []; is = refl; allowed = (e, tt); others = λ x none. refl }
 
-elsewhere : (n a v x : ℕ) (m : Bytes) → (a ≤ x → a + n ≤ x) → with_number n m a v x ≡ m x
+pub elsewhere : (n a v x : ℕ) (m : Bytes) → (a ≤ x → a + n ≤ x) → with_number n m a v x ≡ m x
 elsewhere n a v x m behind = elim (nat_lt x a) as (λ b. nat_lt x a ≡ b → with_number n m a v x ≡ m x) [
   | true ↦ λ e. with_number_below n m a v x (grind (arith, nat_tests))
   | false ↦ λ e. with_number_above n m a v x (behind (grind (arith, nat_tests)))

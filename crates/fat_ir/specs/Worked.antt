@@ -80,7 +80,7 @@ writes_element i = fun 0 0 4 in_turn (element i ++ (
     ∷ Judge 0 1 1 true (at 2 17)
     ∷ Store 0 2 I8
     ∷ []) ++ element i ++ (
-    Judge 0 1 1 false (at 2 28)
+    Judge 0 1 1 false (at 2 29)
     ∷ Load 0 0 I8
     ∷ Service 1 (Some 0) None
     ∷ Const 0 0

@@ -15,6 +15,10 @@ member_bytes offset size p = bounds_at (moved p offset) size
 unfoldable pub member_bounds : Flags → (first : Bool) → (offset size : ℕ) → (p : ℕ) → Bounds → Bounds
 member_bounds flags first offset size p b = if first || not flags.narrow then b else met b (member_bytes offset size p)
 
+-- the rule that does so for every address and all bounds
+abbrev pub rule_of : Flags → (first : Bool) → (offset size : ℕ) → Rule
+rule_of flags first offset size = if first || not flags.narrow then Keep else Meet offset size
+
 -- what a rule makes of the bounds b of the struct's address p
 abbrev pub bounds_by : Rule → ℕ → Bounds → Bounds
 bounds_by Keep p b = b

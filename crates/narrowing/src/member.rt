@@ -4,7 +4,7 @@ ghost use Rattle.std.specs.Prelude.{◌≡◌, ℕ, ◌<◌, ◌≤◌, ◌↔�
 ghost use Rattle.mx_base.specs.declared.limits.Bounds.{Bounds};
 ghost use Rattle.mx_base.specs.declared.settings.Flags.{Flags as FlagsOf};
 ghost use Rattle.mx_base.specs.Bounds.{addresses, moved, is_outside, last_byte};
-ghost use Rattle.narrowing.specs.Member.{bounds_by, member_bounds};
+ghost use Rattle.narrowing.specs.Member.{bounds_by, member_bounds, rule_of};
 
 use mx_base::Flags;
 
@@ -21,6 +21,7 @@ pub enum Rule {
 /// struct again; and every member does where narrowing is off.
 #[tactic(auto, unfolding(crate::specs::Member::member_bounds))]
 pub fn of_member(first: bool, offset: u64, size: u64, flags: Flags) -> Rule
+    ensures rule { result ≡ rule_of flags first offset size }
     ensures bounds { (p : ℕ) (b : Bounds) → bounds_by result p b ≡ member_bounds flags first offset size p b }
     ensures keeps { (result ≡ Rule.Keep) ↔ IsTrue (first || not flags.narrow) }
 {

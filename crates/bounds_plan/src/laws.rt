@@ -1,0 +1,31 @@
+//! Laws of the meaning of C. Each function does nothing, and its contract is the law.
+
+ghost use Rattle.std.specs.Prelude.{◌≡◌, ℕ};
+ghost use Rattle.bounds_plan.specs.Expressions.{CalleeOfC};
+ghost use Rattle.bounds_plan.specs.Functions.{Linked, calls};
+ghost use Rattle.bounds_plan.specs.Laws.{LeftByCalls, LeftOutside, NoMoreTurns, OutputGrows, Judged, CopiesWhole, passes_on};
+
+/// No run of a program leaves more turns than there were, if nothing outside of it does.
+pub fn turns_never_grow()
+    ensures { (program : ℕ → Linked) (outside : CalleeOfC → CalleeOfC) → LeftOutside NoMoreTurns outside → (depth : ℕ) → LeftByCalls NoMoreTurns (calls program outside depth) }
+{}
+
+/// The output of a run begins with the output before it, if what is outside of the program keeps to that.
+pub fn output_only_grows()
+    ensures { (program : ℕ → Linked) (outside : CalleeOfC → CalleeOfC) → LeftOutside OutputGrows outside → (depth : ℕ) → LeftByCalls OutputGrows (calls program outside depth) }
+{}
+
+/// Every access of a run lies within the bounds of its pointer, and memory changes by the accesses alone, if what is outside
+/// of the program keeps to that: the log has each access of the world with its bounds, which it doesn't leave; none was
+/// refused; and every byte that none of them wrote is as before. The scalars of a struct that is copied lie inside it.
+pub fn accesses_stay_within_bounds()
+    ensures { (program : ℕ → Linked) → CopiesWhole program → (outside : CalleeOfC → CalleeOfC) → LeftOutside Judged outside → (depth : ℕ) → LeftByCalls Judged (calls program outside depth) }
+{}
+
+/// What is outside of a program can keep to all of these: for one, a function that calls the C function of its own number
+/// with its own arguments.
+pub fn outside_can_keep_to_laws()
+    ensures turns { LeftOutside NoMoreTurns passes_on }
+    ensures output { LeftOutside OutputGrows passes_on }
+    ensures judged { LeftOutside Judged passes_on }
+{}

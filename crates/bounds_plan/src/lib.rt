@@ -1,0 +1,10 @@
+//! What C means: the core tree of a function, and what it does.
+#![tactic(auto)]
+
+mod laws;
+mod worked;
+
+pub use laws::{
+    accesses_stay_within_bounds, output_only_grows, outside_can_keep_to_laws, turns_never_grow,
+};
+pub use worked::small_programs_mean_so;
