@@ -1,6 +1,7 @@
 -- One induction over the whole meaning: what each small event keeps between world and log before and after, every run keeps.
 use Rattle.std.proofs.Common.{is_some, ℕ, zero, suc, ◌+◌, ◌-◌, ◌≡◌, ◌≤◌, refl, ap, ◌∙◌, cond, nat_lt, List, [], ◌∷◌, Option, Some, None, Bool, true, false, arith}
 use Rattle.std.specs.Option.{option_map}
+use Rattle.std.specs.List.{list_any}
 use Rattle.mx_base.specs.declared.limits.Bounds.{Bounds as BoundsPair}
 use Rattle.mx_base.specs.declared.numbers.IntKind.{IntKind}
 use Rattle.mx_base.specs.declared.places.Place.{Place}
@@ -15,17 +16,17 @@ use Rattle.mx_base.specs.Access.{Refusal, refusal}
 use Rattle.mx_base.specs.BoundsStore.{BoundsStore, keep_bounds, load_bounds}
 use Rattle.mx_base.specs.Services.{Guest, Served, Answers, Exits, Overflows, Refused}
 use Rattle.mx_base.specs.StopOfC.{StopOfC, StackOver, OutOfTurns}
-use Rattle.mx_base.specs.World.{World, Log, Root, read_noted, number_written, with_store, stored_or_stopped, loaded_or_stopped, pointer_read, pointer_written}
+use Rattle.mx_base.specs.World.{World, Log, UnsetPointer, Root, read_noted, number_written, with_store, stored_or_stopped, loaded_or_stopped, pointer_read, pointer_written}
 use Rattle.mx_base.proofs.BoundsLemmas.{is_outside-leaving_value}
 use Rattle.fat_ir.specs.Calls.{with_turns, with_data_sp}
 use Rattle.fat_ir.specs.Step.{Located, ObjectAt, FunctionAt, served_in_c}
 use Rattle.fat_ir.specs.Functions.{Target, OfC, Outside}
 use Rattle.bounds_plan.specs.Core.{Scalar, NumberExpr, Word, Variable, Assign, Operate, Compare, Convert, AsNumber, Load, Store, Update, UpdateAt, And, Or, Choose, Call, Serve, Ask, PointerExpr, Null, FromInteger, Function, Object, InFrame, VariablePtr, AssignPtr, Member, Element, LoadPtr, StorePtr, Advance, AdvanceAt, ChoosePtr, CallPtr, Alloc, SetBounds, NarrowBounds, CopyBounds, InitBounds, BoundOf, Arguments, NoMore, WithNumber, WithPointer, Effect, Nothing, OfNumber as ForNumber, OfPointer as ForPointer, CopyStruct, Statement, Skip, Do, Then, If, While, DoWhile, For, Break, Continue, Return, ReturnNumber, ReturnPtr}
-use Rattle.bounds_plan.specs.State.{Pointer, Passed, OfNumber, OfPointer, State, Ended, Done, Stopped, M, bind, ◌>>=◌, ◌>>◌, pure, stop, unless, with_made}
+use Rattle.bounds_plan.specs.State.{Pointer, Passed, OfNumber, OfPointer, State, Ended, Done, Stopped, M, bind, ◌>>=◌, ◌>>◌, pure, stop, unless, with_made, with_cause}
 use Rattle.bounds_plan.specs.Accesses.{leaves, judge, allow, access, read_number, write_number, with_root, came, read_pointer, went, write_pointer, load, store, load_ptr, store_ptr, with_granule}
-use Rattle.bounds_plan.specs.Expressions.{Answer, Comes, Stops, CalleeOfC, Names, answered_with, calling, pointer_passed, number_passed, served_with, serving, block, choose, divided, operate, object, function, in_frame, number, pointer, arguments, step}
+use Rattle.bounds_plan.specs.Expressions.{Answer, Comes, Stops, CalleeOfC, Names, answered_with, calling, pointer_passed, number_passed, served_with, serving, block, choose, divided, operate, object, in_frame, number, pointer, arguments, step}
 use Rattle.bounds_plan.specs.Statements.{part, copy_scalar, copy_scalars, effect, turn_from, turn, Flow, Normal, Broke, Continued, Returned, Left, after_body, round, loop, round_once, loop_once, after_first, statement}
-use Rattle.bounds_plan.specs.Functions.{Parameter, Private, Framed, Framed_variable, FunctionOfC, arrive, arrive_all, made_in_frame, state_at_entry, result_of, answer_of, body_run, taking_turn, entering, returning, Linked, call_of, names_of, entered_at, calls}
+use Rattle.bounds_plan.specs.Functions.{Parameter, Private, Framed, Framed_variable, FunctionOfC, arrive, arrive_all, made_in_frame, unset, state_at_entry, result_of, answer_of, body_run, taking_turn, entering, returning, Linked, call_of, names_of, entered_at, calls}
 use Rattle.bounds_plan.specs.Functions.{turn_from as world_turn_from}
 use Rattle.bounds_plan.specs.Laws.{Relation, Leaves, LeftByCalls, scalar_size, CopyFact, OfEffect, OfCopies}
 
@@ -184,10 +185,6 @@ module _ (R : Relation) (k : Keeps R) where
   kept-object (ObjectAt a) offset size = λ s. k.same s.world s.log
   kept-object (FunctionAt a) offset size = λ s. k.logged s.world s.log _ refl
 
-  kept-function : (l : Located) → KeptM (function l)
-  kept-function (ObjectAt a) = λ s. k.logged s.world s.log _ refl
-  kept-function (FunctionAt a) = λ s. k.logged s.world s.log _ refl
-
   mutual
     pub kept-number : (names : Names) → KeptF names.call → (e : NumberExpr) → KeptM (number names e)
     kept-number names h (Word n) = kept-pure n
@@ -211,7 +208,7 @@ module _ (R : Relation) (k : Keeps R) where
     pub kept-pointer : (names : Names) → KeptF names.call → (e : PointerExpr) → KeptM (pointer names e)
     kept-pointer names h Null = λ s. k.logged s.world s.log _ refl
     kept-pointer names h (FromInteger e) = seq (number names e) _ (kept-number names h e) (λ n s. k.logged s.world s.log _ refl)
-    kept-pointer names h (Function symbol) = kept-function (names.located symbol)
+    kept-pointer names h (Function symbol) = kept-object (names.located symbol) 0 1
     kept-pointer names h (Object symbol offset size) = kept-object (names.located symbol) offset size
     kept-pointer names h (InFrame offset size) = λ s. k.same s.world s.log
     kept-pointer names h (VariablePtr x) = λ s. k.same s.world s.log
@@ -361,19 +358,26 @@ module _ (R : Relation) (k : Keeps R) where
     same-trace sp [] l = refl
     same-trace sp (v ∷ rest) l = same-trace sp rest (with_made (bounds_at (moved sp v.offset) v.size) l)
 
+    same-unset : (privates : List Bool) (l : Log) → (unset privates l).trace ≡ l.trace
+    same-unset privates l = either-way (list_any (λ b. b) privates) l
+      where
+        either-way : (any : Bool) (l : Log) → (cond any (with_cause UnsetPointer l) l).trace ≡ l.trace
+        either-way true l = refl
+        either-way false l = refl
+
     kept-result : (f : Flow) → KeptM (result_of f)
     kept-result Normal = λ s. k.logged s.world s.log _ refl
     kept-result Broke = λ s. k.logged s.world s.log _ refl
     kept-result Continued = λ s. k.logged s.world s.log _ refl
     kept-result (Returned v) = λ s. k.same s.world s.log
-    kept-result Left = λ s. k.logged s.world s.log _ refl
+    kept-result Left = λ s. k.same s.world s.log
 
     kept-answer : (w : World) (l : Log) (s : State) (r : Ended Passed) → R w l s.world s.log → Kept s r → KeptC w l (answer_of r)
     kept-answer w l s (Done v z) h g = k.join w l s.world s.log z.world z.log h g
     kept-answer w l s (Stopped why z) h g = k.join w l s.world s.log z.world z.log h g
 
     kept-body_run : (names : Names) → KeptF names.call → (f : FunctionOfC) → OfCopies F f.body → (args : List Passed) (w : World) (l : Log) → KeptC w l (body_run names f args w l)
-    kept-body_run names h f fit args w l = kept-answer w l (state_at_entry f w l) _ (k.logged w l _ (same-trace w.data_sp f.variables l))
+    kept-body_run names h f fit args w l = kept-answer w l (state_at_entry f w l) _ (k.logged w l _ (same-unset f.privates (made_in_frame w.data_sp f.variables l) ∙ same-trace w.data_sp f.variables l))
         (seq_ (arrive_all f.parameters args) _ (kept-arrive_all f.parameters args) (seq (statement names f.body) _ (kept-statement names h f.body fit) kept-result) (state_at_entry f w l))
 
     kept-if_full : (full : Bool) (why : StopOfC) (w : World) (l : Log) (a : Answer) → KeptC w l a → KeptC w l (cond full (Stops why w l) a)

@@ -79,9 +79,9 @@ divided (Some n) = pure n
 abbrev pub operate : Arithmetic → IntKind → ℕ → ℕ → M ℕ
 operate op kind a b = divided (word_arithmetic op kind a b)
 
--- the address so many elements further, or before where an index is taken away
+-- the address so many elements further, or before where an index is taken away, modulo 2^64
 unfoldable pub stepped : (minus : Bool) → (size address index : ℕ) → ℕ
-stepped minus size address index = if minus then (address + addresses * size - index * size) % addresses else (address + index * size) % addresses
+stepped minus size address index = if minus then (address + (addresses - index * size % addresses)) % addresses else (address + index * size) % addresses
 
 abbrev pub with_address : ℕ → Pointer → Pointer
 with_address a p = record { address = a; rooted = p.rooted }
@@ -96,14 +96,10 @@ step minus size p i = with_address (stepped minus size p.address i) p
 abbrev pub either : {A : Type 0} → (old : Bool) → A → A → A
 either old before after = if old then before else after
 
--- the address of a variable or literal has the bounds of its bytes
+-- the address of a variable or literal has the bounds of its bytes, and that of a function full bounds
 abbrev pub object : Located → (offset size : ℕ) → M Pointer
 object (ObjectAt a) offset size = made_before (moved a offset) (bounds_at (moved a offset) size)
 object (FunctionAt a) offset size = full_by FunctionAddress (moved a offset)
-
-abbrev pub function : Located → M Pointer
-function (ObjectAt a) = full_by FunctionAddress a
-function (FunctionAt a) = full_by FunctionAddress a
 
 abbrev pub in_frame : (offset size : ℕ) → M Pointer
 in_frame offset size = λ s. made_before (moved s.world.data_sp offset) (bounds_at (moved s.world.data_sp offset) size) s
@@ -178,7 +174,7 @@ abbrev mutual
   pointer names (FromInteger e) = do
     n ← number names e
     full_by WasInteger n
-  pointer names (Function symbol) = function (names.located symbol)
+  pointer names (Function symbol) = object (names.located symbol) 0 1
   pointer names (Object symbol offset size) = object (names.located symbol) offset size
   pointer names (InFrame offset size) = in_frame offset size
   pointer names (VariablePtr x) = variable_ptr x

@@ -1,5 +1,6 @@
 -- What calls of C functions do.
-use Rattle.std.specs.Prelude.{ℕ, zero, suc, ◌+◌, ◌-◌, ◌%◌, max, nat_lt, true, if◌then◌else◌, Option, None, Some, List, [], ◌∷◌}
+use Rattle.std.specs.Prelude.{ℕ, zero, suc, ◌+◌, ◌-◌, ◌%◌, max, nat_lt, Bool, true, if◌then◌else◌, Option, None, Some, List, [], ◌∷◌}
+use Rattle.std.specs.List.{list_any}
 use Rattle.mx_base.specs.declared.numbers.IntKind.{IntKind}
 use Rattle.mx_base.specs.Numbers.{size_of}
 use Rattle.mx_base.specs.Bounds.{full_bounds, moved, bounds_at}
@@ -10,10 +11,10 @@ use Rattle.fat_ir.specs.Calls.{with_turns, with_data_sp}
 use Rattle.fat_ir.specs.Step.{Located}
 use Rattle.fat_ir.specs.Functions.{Target, OfC, Outside, most_depth}
 use Rattle.bounds_plan.specs.Core.{Statement}
-use Rattle.bounds_plan.specs.State.{Passed, OfPointer, State, Ended, Done, Stopped, M, ◌>>=◌, ◌>>◌, pure, full_by, with_made, with_cause, set_variable, set_variable_ptr}
+use Rattle.bounds_plan.specs.State.{Passed, OfNumber, OfPointer, State, Ended, Done, Stopped, M, ◌>>=◌, ◌>>◌, pure, full_by, with_made, with_cause, set_variable, set_variable_ptr}
 use Rattle.bounds_plan.specs.Accesses.{allow, write_number, write_pointer}
 use Rattle.bounds_plan.specs.Expressions.{Answer, Comes, Stops, CalleeOfC, Names, number_passed, pointer_passed, in_frame}
-use Rattle.bounds_plan.specs.Statements.{Flow, Returned, statement}
+use Rattle.bounds_plan.specs.Statements.{Flow, Returned, Left, statement}
 
 -- where a parameter stands: in a private variable, or at an offset of the data frame; and its type, a pointer where none is given
 pub data Parameter : Type 0 where
@@ -25,10 +26,11 @@ pub record Framed_variable : Type 0 where
   pub offset : ℕ
   pub size : ℕ
 
--- a C function: its parameters, the variables in its data frame in order of declaration with its parameters there, the size of the
--- frame, and its body
+-- a C function: its parameters; for each value of its private variables, whether it is bounds; the variables in its data frame in order
+-- of declaration, with the parameters there; the size of the frame; and its body
 pub record FunctionOfC : Type 0 where
   pub parameters : List Parameter
+  pub privates : List Bool
   pub variables : List Framed_variable
   pub frame : ℕ
   pub body : Statement
@@ -59,20 +61,25 @@ abbrev pub made_in_frame : ℕ → List Framed_variable → Log → Log
 made_in_frame sp [] log = log
 made_in_frame sp (v ∷ rest) log = made_in_frame sp rest (with_made (bounds_at (moved sp v.offset) v.size) log)
 
+-- private pointers are unset, if there are any
+abbrev pub unset : List Bool → Log → Log
+unset privates log = if list_any (λ b. b) privates then with_cause UnsetPointer log else log
+
 -- a private variable that nothing was written to is 0, with full bounds
 abbrev pub state_at_entry : FunctionOfC → World → Log → State
 state_at_entry f w log = record {
   numbers = λ x. 0;
   pairs = λ x. record { bounds = full_bounds; root = FullBy UnsetPointer };
   world = w;
-  log = with_cause UnsetPointer (made_in_frame w.data_sp f.variables log);
+  log = unset f.privates (made_in_frame w.data_sp f.variables log);
 }
 
 -- ---- the end
 
--- a function that ends without a value gives 0 with full bounds
+-- `return` without a value gives 0, and a function that ends without `return` 0 with full bounds
 abbrev pub result_of : Flow → M Passed
 result_of (Returned v) = pure v
+result_of Left = pure (OfNumber 0)
 result_of _ = full_by NoReturn 0 >>= (λ p. pure (OfPointer p))
 
 abbrev pub answer_of : Ended Passed → Answer

@@ -4,5 +4,6 @@ pub mod Accesses
 pub mod Expressions
 pub mod Statements
 pub mod Functions
+pub mod Code
 pub mod Laws
 pub mod Worked

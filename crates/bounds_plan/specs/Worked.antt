@@ -10,7 +10,9 @@ use Rattle.mx_base.specs.Memory.{no_bytes}
 use Rattle.mx_base.specs.World.{Access, world_at_start, Log, empty_log}
 use Rattle.narrowing.specs.Member.{rule_of}
 use Rattle.fat_ir.specs.Step.{ObjectAt}
-use Rattle.fat_ir.specs.Functions.{OfC}
+use Rattle.fat_ir.specs.Calls.{Outcome, Comes as ComesBack, Stops as StopsAt, Stuck, Callee}
+use Rattle.fat_ir.specs.Functions.{OfC, Linked as FatLinked, calls as steps_calls, exited as exited_steps}
+use Rattle.bounds_plan.specs.Code.{fat_function, fat_parameters}
 use Rattle.bounds_plan.specs.Core.{NumberExpr, Word, Variable, Assign, Operate, Compare, Convert, AsNumber, Load, Store, Update, Call, Serve, Ask, PointerExpr, FromInteger, Object, VariablePtr, AssignPtr, Member, Element, LoadPtr, StorePtr, Alloc, InitBounds, BoundOf, NoMore, WithNumber, OfNumber, OfPointer, CopyStruct, Statement, Skip, Do, Then, If, For, ReturnNumber}
 use Rattle.bounds_plan.specs.Expressions.{Answer, Comes, Stops, CalleeOfC}
 use Rattle.bounds_plan.specs.Functions.{Private, FunctionOfC, Linked, calls, exited}
@@ -45,8 +47,13 @@ at line col = record { file = 0; line = line; col = col }
 
 -- ---- one unit: its functions have the symbols from 0 on, and its objects stand where these symbols say
 
-abbrev pub function : Statement → FunctionOfC
-function body = record { parameters = []; variables = []; frame = 0; body = body }
+-- a function without parameters whose private variables have these values
+abbrev pub function : List Bool → Statement → FunctionOfC
+function privates body = record { parameters = []; privates = privates; variables = []; frame = 0; body = body }
+
+-- a pointer and a number
+abbrev pub pointer_and_number : List Bool
+pointer_and_number = false ∷ true ∷ false ∷ []
 
 abbrev pub linked : (ℕ → ℕ) → FunctionOfC → Linked
 linked address f = record { fun = f; targets = λ s. OfC s; located = λ s. ObjectAt (address s) }
@@ -60,7 +67,23 @@ abbrev pub log_with : List Bounds → Log
 log_with made = record empty_log { made = made }
 
 abbrev pub run_alone : (ℕ → ℕ) → List Bounds → Statement → (turns : ℕ) → Option Told
-run_alone address made body turns = told (exited (calls (λ n. linked address (function body)) nothing_outside 4096 0 [] (world_at_start no_bytes [] turns) (log_with made)))
+run_alone address made body turns = told (exited (calls (λ n. linked address (function pointer_and_number body)) nothing_outside 4096 0 [] (world_at_start no_bytes [] turns) (log_with made)))
+
+-- ---- the same of the steps that a function is compiled to
+
+abbrev pub told_of_steps : Outcome → Option Told
+told_of_steps (ComesBack v w) = None
+told_of_steps (StopsAt why w) = Some record { stop = why; out = w.guest.out; turns = w.turns; accesses = w.accesses; touched = w.store.touched }
+told_of_steps Stuck = None
+
+abbrev pub compiled : Linked → FatLinked
+compiled l = record { fun = fat_function 0 l.fun; parameters = fat_parameters l.fun.parameters; targets = l.targets; located = l.located }
+
+abbrev pub no_steps_outside : Callee → Callee
+no_steps_outside own = own
+
+abbrev pub run_steps : (ℕ → ℕ) → Statement → (turns : ℕ) → Option Told
+run_steps address body turns = told_of_steps (exited_steps (steps_calls (λ n. compiled (linked address (function pointer_and_number body))) no_steps_outside 4096 0 [] (world_at_start no_bytes [] turns)))
 
 abbrev pub in_order : List Statement → Statement
 in_order [] = Skip
@@ -207,16 +230,20 @@ counts = Then (does (Assign 0 (Word 0))) (For (Word 1) (OfNumber (Update 0 I32 P
 abbrev pub descends : FunctionOfC
 descends = record {
   parameters = Private 0 (Some I32) ∷ [];
+  privates = false ∷ [];
   variables = [];
   frame = 0;
   body = Then (If (Compare Equal I32 (Variable 0) (Word 0)) ends_with_0 Skip) (ReturnNumber (Call 0 (WithNumber (Operate Minus I32 (Variable 0) (Word 1)) NoMore)));
 }
 
 abbrev pub descent : (n f : ℕ) → Linked
-descent n f = linked first_object (if f == 0 then descends else function (ReturnNumber (Call 0 (WithNumber (Word n) NoMore))))
+descent n f = linked first_object (if f == 0 then descends else function [] (ReturnNumber (Call 0 (WithNumber (Word n) NoMore))))
 
 abbrev pub run_descent : (n depth turns : ℕ) → Option Told
 run_descent n depth turns = told (exited (calls (descent n) nothing_outside depth 1 [] (world_at_start no_bytes [] turns) empty_log))
+
+abbrev pub run_descent_steps : (n depth turns : ℕ) → Option Told
+run_descent_steps n depth turns = told_of_steps (exited_steps (steps_calls (λ f. compiled (descent n f)) no_steps_outside depth 1 [] (world_at_start no_bytes [] turns)))
 
 -- ---- int main(void){ print(1/0); return 0; }
 

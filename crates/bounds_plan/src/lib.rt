@@ -7,4 +7,4 @@ mod worked;
 pub use laws::{
     accesses_stay_within_bounds, output_only_grows, outside_can_keep_to_laws, turns_never_grow,
 };
-pub use worked::small_programs_mean_so;
+pub use worked::{compiled_programs_run_so, small_programs_mean_so};

@@ -3,7 +3,7 @@
 ghost use Rattle.std.specs.Prelude.{◌≡◌, Bool, true, false, [], ◌∷◌, codes};
 ghost use Rattle.mx_base.specs.Bounds.{bounds_at};
 ghost use Rattle.mx_base.specs.StopOfC.{Exit, Bounds, OutOfTurns, Divide, StackOver, Unmapped, AtPlace};
-ghost use Rattle.bounds_plan.specs.Worked.{ends, read, written, pair, at, run_alone, first_object, array_and_pointer, pairs_of_pointers, prints_7, writes_element, reads_past_end, fills_block, keeps_pointer, spreads_pointers, reads_last_byte, prints_members, copies_pointers, counts, run_descent, divides_by_0, frees_twice};
+ghost use Rattle.bounds_plan.specs.Worked.{ends, read, written, pair, at, run_alone, run_steps, first_object, array_and_pointer, pairs_of_pointers, prints_7, writes_element, reads_past_end, fills_block, keeps_pointer, spreads_pointers, reads_last_byte, prints_members, copies_pointers, counts, run_descent, run_descent_steps, divides_by_0, frees_twice};
 
 /// How small programs end: by which stop, with which output, with how many turns left, after which accesses, and with
 /// which megabytes asked for bounds. The sources stand beside their core trees.
@@ -26,4 +26,26 @@ pub fn small_programs_mean_so()
     ensures deep { run_descent 1 3 100 ≡ ends (Exit 0) [] 94 [] [] }
     ensures division { run_alone first_object [] divides_by_0 10 ≡ ends Divide [] 9 [] [] }
     ensures freed_twice { run_alone first_object [] frees_twice 10 ≡ ends (Exit 0) (codes "0\n-1\n-1\n") 8 [] [] }
+{}
+
+/// The steps that these programs are compiled to end in the same way, with the same output, turns and accesses.
+pub fn compiled_programs_run_so()
+    ensures prints { run_steps first_object prints_7 10 ≡ run_alone first_object [] prints_7 10 }
+    ensures inside { run_steps first_object (writes_element 3) 10 ≡ run_alone first_object (bounds_at 0x2000_0000 4 ∷ []) (writes_element 3) 10 }
+    ensures first_byte_outside { run_steps first_object (writes_element 4) 10 ≡ run_alone first_object (bounds_at 0x2000_0000 4 ∷ []) (writes_element 4) 10 }
+    ensures last_byte_outside { run_steps first_object reads_past_end 10 ≡ run_alone first_object (bounds_at 0x2000_0000 4 ∷ []) reads_past_end 10 }
+    ensures block { run_steps first_object fills_block 20 ≡ run_alone first_object [] fills_block 20 }
+    ensures pointer_back { run_steps array_and_pointer (keeps_pointer false) 10 ≡ run_alone array_and_pointer [] (keeps_pointer false) 10 }
+    ensures pointer_spoiled { run_steps array_and_pointer (keeps_pointer true) 10 ≡ run_alone array_and_pointer [] (keeps_pointer true) 10 }
+    ensures megabytes { run_steps first_object spreads_pointers 10 ≡ run_alone first_object (bounds_at 0x2000_0000 4 ∷ []) spreads_pointers 10 }
+    ensures unmapped { run_steps first_object reads_last_byte 10 ≡ run_alone first_object [] reads_last_byte 10 }
+    ensures narrowed { run_steps first_object (prints_members record { narrow = true }) 10 ≡ run_alone first_object [] (prints_members record { narrow = true }) 10 }
+    ensures not_narrowed { run_steps first_object (prints_members record { narrow = false }) 10 ≡ run_alone first_object [] (prints_members record { narrow = false }) 10 }
+    ensures struct_copied { run_steps pairs_of_pointers copies_pointers 10 ≡ run_alone pairs_of_pointers [] copies_pointers 10 }
+    ensures five_turns { run_steps first_object counts 5 ≡ run_alone first_object [] counts 5 }
+    ensures no_turn { run_steps first_object counts 0 ≡ run_alone first_object [] counts 0 }
+    ensures too_deep { run_descent_steps 2 3 100 ≡ run_descent 2 3 100 }
+    ensures deep { run_descent_steps 1 3 100 ≡ run_descent 1 3 100 }
+    ensures division { run_steps first_object divides_by_0 10 ≡ run_alone first_object [] divides_by_0 10 }
+    ensures freed_twice { run_steps first_object frees_twice 10 ≡ run_alone first_object [] frees_twice 10 }
 {}
