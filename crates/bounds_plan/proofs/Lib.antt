@@ -1,3 +1,4 @@
+mod Fresh
 mod Parts
 mod Runs
 mod Worlds

@@ -108,3 +108,9 @@ OfCopies fact (ReturnPtr p) = Unit {0}
 -- in every function of a program the scalars of each struct that is copied lie inside it
 abbrev pub CopiesWhole : (ℕ → Linked) → Type 0
 CopiesWhole program = (f : ℕ) → OfCopies LieInside (program f).fun.body
+
+-- ---- labels
+
+-- the label k is none of the n labels from l on
+pub record IsOutside (k l n : ℕ) : Type 0 where
+  pub is : l ≤ k → l + n ≤ k

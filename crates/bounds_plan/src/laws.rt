@@ -3,7 +3,10 @@
 ghost use Rattle.std.specs.Prelude.{◌≡◌, ℕ};
 ghost use Rattle.bounds_plan.specs.Expressions.{CalleeOfC};
 ghost use Rattle.bounds_plan.specs.Functions.{Linked, calls};
-ghost use Rattle.bounds_plan.specs.Laws.{LeftByCalls, LeftOutside, NoMoreTurns, OutputGrows, Judged, CopiesWhole, passes_on};
+ghost use Rattle.fat_ir.specs.Laws.{LacksLabel};
+ghost use Rattle.bounds_plan.specs.Core.{NumberExpr, PointerExpr, Statement};
+ghost use Rattle.bounds_plan.specs.Code.{labels, labels_ptr, labels_of, code, code_ptr, code_of};
+ghost use Rattle.bounds_plan.specs.Laws.{IsOutside, LeftByCalls, LeftOutside, NoMoreTurns, OutputGrows, Judged, CopiesWhole, passes_on};
 
 /// No run of a program leaves more turns than there were, if nothing outside of it does.
 pub fn turns_never_grow()
@@ -28,4 +31,11 @@ pub fn outside_can_keep_to_laws()
     ensures turns { LeftOutside NoMoreTurns passes_on }
     ensures output { LeftOutside OutputGrows passes_on }
     ensures judged { LeftOutside Judged passes_on }
+{}
+
+/// The code of a tree has no labels but as many as it needs, from the first one on.
+pub fn code_has_its_own_labels()
+    ensures numbers { (e : NumberExpr) (d l k : ℕ) → IsOutside k l (labels e) → LacksLabel k (code e d l) }
+    ensures pointers { (e : PointerExpr) (d l k : ℕ) → IsOutside k l (labels_ptr e) → LacksLabel k (code_ptr e d l) }
+    ensures statements { (s : Statement) (d l lb lc k : ℕ) → IsOutside k l (labels_of s) → LacksLabel k (code_of s d l lb lc) }
 {}
