@@ -109,7 +109,7 @@ scaled size a free = s.Const free size ∷ s.Arith a (operator Times) U64 a free
 -- the bounds of the pointer in d under a member's rule
 abbrev pub ruled : Rule → (d : ℕ) → List FatStep
 ruled Keep d = []
-ruled (MeetRule offset size) d = offset_by offset (d + 4) d (d + 2) ++ (s.Const (d + 2) size ∷ s.Make (d + 3) (d + 4) (d + 2) ∷ s.Meet (d + 1) (d + 1) (d + 3) ∷ [])
+ruled (MeetRule offset size) d = offset_by offset (d + 4) d (d + 2) ++ (s.Const (d + 2) size ∷ s.Make (d + 2 + 1) (d + 4) (d + 2) ∷ s.Meet (d + 1) (d + 1) (d + 2 + 1) ∷ [])
 
 abbrev pub before_or_after : (old : Bool) → ℕ → ℕ → ℕ
 before_or_after old before after = if old then before else after
@@ -154,18 +154,18 @@ abbrev mutual
   code_ptr (Member offset rule p) d l = code_ptr p d l ++ (ruled rule d ++ offset_by offset d d (d + 2))
   code_ptr (Element minus size p i) d l = code_ptr p d l ++ (code i (d + 2) (l + labels_ptr p) ++ (scaled size (d + 2) (d + 4) ++ (s.Arith d (plus_or_minus minus) U64 d (d + 2) ∷ [])))
   code_ptr (LoadPtr place p) d l = code_ptr p d l ++ (s.Judge d 8 (d + 1) false place ∷ s.LoadPtr d d (d + 1) ∷ [])
-  code_ptr (StorePtr place p e) d l = code_ptr p d l ++ (code_ptr e (d + 2) (l + labels_ptr p) ++ (s.Judge d 8 (d + 1) true place ∷ s.StorePtr d (d + 2) (d + 3) ∷ s.Copy d (d + 2) ∷ s.Copy (d + 1) (d + 3) ∷ []))
+  code_ptr (StorePtr place p e) d l = code_ptr p d l ++ (code_ptr e (d + 2) (l + labels_ptr p) ++ (s.Judge d 8 (d + 1) true place ∷ s.StorePtr d (d + 2) (d + 2 + 1) ∷ s.Copy d (d + 2) ∷ s.Copy (d + 1) (d + 2 + 1) ∷ []))
   code_ptr (Advance x minus size i old) d l = code i d l ++ (scaled size d (d + 2) ++ (
       s.Copy (d + 2) x ∷ s.Arith d (plus_or_minus minus) U64 (d + 2) d ∷ s.Copy x d ∷ s.Copy d (before_or_after old (d + 2) d) ∷ s.Copy (d + 1) (x + 1) ∷ []))
   code_ptr (AdvanceAt place p minus size i old) d l = code_ptr p d l ++ (code i (d + 2) (l + labels_ptr p) ++ (scaled size (d + 2) (d + 4) ++ (
-      s.Judge d 8 (d + 1) false place ∷ s.LoadPtr d (d + 4) (d + 5) ∷ s.Arith (d + 2) (plus_or_minus minus) U64 (d + 4) (d + 2)
-      ∷ s.Judge d 8 (d + 1) true place ∷ s.StorePtr d (d + 2) (d + 5) ∷ s.Copy d (before_or_after old (d + 4) (d + 2)) ∷ s.Copy (d + 1) (d + 5) ∷ [])))
+      s.Judge d 8 (d + 1) false place ∷ s.LoadPtr d (d + 4) (d + 4 + 1) ∷ s.Arith (d + 2) (plus_or_minus minus) U64 (d + 4) (d + 2)
+      ∷ s.Judge d 8 (d + 1) true place ∷ s.StorePtr d (d + 2) (d + 4 + 1) ∷ s.Copy d (before_or_after old (d + 4) (d + 2)) ∷ s.Copy (d + 1) (d + 4 + 1) ∷ [])))
   code_ptr (ChoosePtr test a b) d l = code test d (l + 2) ++ (s.JumpIf d l ∷ (code_ptr b d (l + 2 + labels test) ++ (s.Jump (l + 1) ∷ s.Label l ∷ (code_ptr a d (l + 2 + labels test + labels_ptr b) ++ (s.Label (l + 1) ∷ [])))))
   code_ptr (CallPtr symbol args) d l = codes args d l ++ (s.Call symbol (arguments_at args d) (Some d) (Some (d + 1)) ∷ [])
   code_ptr (Alloc e) d l = code e d (l + 1) ++ (s.Service 3 (Some d) (Some (d + 2)) ∷ s.JumpIf (d + 2) l ∷ s.Const d 0 ∷ s.Label l ∷ s.Make (d + 1) (d + 2) d ∷ s.Copy d (d + 2) ∷ [])
   code_ptr (SetBounds q n) d l = code_ptr q d l ++ (code n (d + 2) (l + labels_ptr q) ++ (s.Make (d + 1) d (d + 2) ∷ []))
-  code_ptr (NarrowBounds p q n) d l = code_ptr p d l ++ (code_ptr q (d + 2) (l + labels_ptr p) ++ (code n (d + 4) (l + labels_ptr p + labels_ptr q) ++ (s.Make (d + 1) d (d + 4) ∷ s.Meet (d + 1) (d + 3) (d + 1) ∷ [])))
-  code_ptr (CopyBounds q r) d l = code_ptr q d l ++ (code_ptr r (d + 2) (l + labels_ptr q) ++ (s.Copy (d + 1) (d + 3) ∷ []))
+  code_ptr (NarrowBounds p q n) d l = code_ptr p d l ++ (code_ptr q (d + 2) (l + labels_ptr p) ++ (code n (d + 4) (l + labels_ptr p + labels_ptr q) ++ (s.Make (d + 1) d (d + 4) ∷ s.Meet (d + 1) (d + 2 + 1) (d + 1) ∷ [])))
+  code_ptr (CopyBounds q r) d l = code_ptr q d l ++ (code_ptr r (d + 2) (l + labels_ptr q) ++ (s.Copy (d + 1) (d + 2 + 1) ∷ []))
   code_ptr (InitBounds q) d l = code_ptr q d l ++ full (d + 1) (d + 2)
   code_ptr (BoundOf upper q) d l = code_ptr q d l ++ (s.Bound d (d + 1) upper ∷ [])
 
@@ -184,7 +184,7 @@ labels_effect (CopyStruct size scalars to_place to from_place from) = labels_ptr
 
 -- a scalar at an offset is copied from the struct at d + 2 to the one at d
 abbrev pub copied : (offset : ℕ) → Option IntKind → (d : ℕ) → List FatStep
-copied offset None d = offset_by offset (d + 6) (d + 2) (d + 4) ++ (s.LoadPtr (d + 6) (d + 6) (d + 7) ∷ []) ++ offset_by offset (d + 4) d (d + 4) ++ (s.StorePtr (d + 4) (d + 6) (d + 7) ∷ [])
+copied offset None d = offset_by offset (d + 6) (d + 2) (d + 4) ++ (s.LoadPtr (d + 6) (d + 6) (d + 6 + 1) ∷ []) ++ offset_by offset (d + 4) d (d + 4) ++ (s.StorePtr (d + 4) (d + 6) (d + 6 + 1) ∷ [])
 copied offset (Some kind) d = offset_by offset (d + 6) (d + 2) (d + 4) ++ (s.Load (d + 6) (d + 6) kind ∷ []) ++ offset_by offset (d + 4) d (d + 4) ++ (s.Store (d + 4) (d + 6) kind ∷ [])
 
 abbrev pub copied_all : List Scalar → (d : ℕ) → List FatStep
@@ -196,7 +196,7 @@ code_effect Nothing d l = []
 code_effect (OfNumber e) d l = code e d l
 code_effect (OfPointer p) d l = code_ptr p d l
 code_effect (CopyStruct size scalars to_place to from_place from) d l = code_ptr to d l ++ (code_ptr from (d + 2) (l + labels_ptr to) ++ (
-    s.Extend (d + 2) (d + 2) U64 ∷ s.Judge (d + 2) size (d + 3) false from_place ∷ s.Extend d d U64 ∷ s.Judge d size (d + 1) true to_place ∷ copied_all scalars d))
+    s.Extend (d + 2) (d + 2) U64 ∷ s.Judge (d + 2) size (d + 2 + 1) false from_place ∷ s.Extend d d U64 ∷ s.Judge d size (d + 1) true to_place ∷ copied_all scalars d))
 
 -- ---- statements
 

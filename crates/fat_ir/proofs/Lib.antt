@@ -1,5 +1,5 @@
 mod Judgements
-mod Lists
+pub mod Lists
 mod Quiet
 mod Rooms
 mod Runs
