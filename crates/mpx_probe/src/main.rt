@@ -1,8 +1,10 @@
-//! Lets scripts reach the libraries: `decode` and `recode` read lines of hexadecimal bytes, `tokens` reads a file, `speed`
-//! repeats one call.
+//! Lets scripts reach the libraries: `decode`, `recode` and `step` read lines of hexadecimal bytes, `tokens` reads a file,
+//! `speed` repeats one call.
 //!
 //! `decode` prints `LENGTH FORM`, `Undefined` or `Short N` for each line, and `recode` the bytes of the spelling of what it
-//! read, or the same refusals. `tokens FILE` prints the number of the file's tokens, or `KIND LINE:COL`. `speed CALL N` does
+//! read, or the same refusals. `step` reads `CODE STATE` and prints `STATE RESULT` after one instruction that isn't of MPX: a
+//! state is rip, the registers by number, an address, a byte of flags (CF is 1, ZF 2, SF 4, OF 8), and the 64 bytes of memory
+//! from that address on, with the lowest byte of a number first. `tokens FILE` prints the number of the file's tokens, or `KIND LINE:COL`. `speed CALL N` does
 //! so many calls and prints how many were done: `decode`, `encode`; loads and stores of memory within a page (`load-one`,
 //! `store-one`) and over 10,000 pages (`load-many`, `store-many`); a free and an alloc among 65,536 live blocks (`heap`), and
 //! an alloc and a free behind 32,767 small free ranges (`heap-gaps`). `speed touch N` touches so many pages and prints how many
@@ -13,16 +15,18 @@ mod files;
 mod instructions;
 mod memory;
 mod speed;
+mod step;
 
 use files::tokens_line;
 use instructions::{decode_line, recode_line};
 use memory::{gaps_often, heap_often, load_often, store_often, touch_pages};
 use mx_base::OutOfMemory;
 use speed::{decode_often, encode_often};
-use std::alloc::Global;
+use std::alloc::{AllocError, Global};
 use std::process::ExitCode;
 use std::rt::Files;
 use std::{env, io};
+use step::step_line;
 
 fn main(rt: HostRuntime) -> io::Result<ExitCode> {
     let args: Vec<String> = env::args(&rt)?.skip(1).collect(rt.alloc())?;
@@ -37,21 +41,34 @@ fn main(rt: HostRuntime) -> io::Result<ExitCode> {
 
 /// Does a command for each line of the input, and says whether there is such a command.
 fn each_line<R: Input + Print + Alloc<A = Global>>(rt: &R, command: &str) -> io::Result<bool> {
-    let recodes = match command {
-        "decode" => false,
-        "recode" => true,
+    let answer = match command {
+        "decode" => Answer::Form,
+        "recode" => Answer::Bytes,
+        "step" => Answer::State,
         _ => return Ok(false),
     };
     for line in rt.lines(rt.alloc()) {
         let line = line?;
-        let text = if recodes {
-            recode_line(rt.alloc(), line.as_str())?
-        } else {
-            decode_line(rt.alloc(), line.as_str())?
-        };
+        let text = answer_line(rt.alloc(), answer, line.as_str())?;
         println!(rt; "{text}")?;
     }
     Ok(true)
+}
+
+/// What is told of an instruction.
+#[derive(Clone, Copy)]
+enum Answer {
+    Form,
+    Bytes,
+    State,
+}
+
+fn answer_line(alloc: Global, answer: Answer, line: &str) -> Result<String, AllocError> {
+    match answer {
+        Answer::Form => decode_line(alloc, line),
+        Answer::Bytes => recode_line(alloc, line),
+        Answer::State => step_line(alloc, line),
+    }
 }
 
 /// Does a command on a file, and says whether there is such a command.

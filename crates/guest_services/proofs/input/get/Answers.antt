@@ -19,7 +19,7 @@ got (Some bytes) new buf n one is taken =
     (drop 1 bytes, first_of_one bytes buf one some same, taken.2 ∙ ap (λ k. Some (drop k bytes)) is)
 
 most : (old new : Option (List ℕ)) (buf : List ℕ) (n : ℕ) → Takes {E = Failed} old new buf (Ok n) → n ≤ length buf
-most None new buf n taken = taken
+most None new buf n taken = taken.0
 most (Some bytes) new buf n taken = taken.0
 
 pub returns-else-n-eq0-clause-answer : goal.returns-else-n-eq0-clause-answer
