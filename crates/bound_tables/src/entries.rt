@@ -1,0 +1,158 @@
+//! Loads and stores of table entries.
+ghost use Rattle.std.specs.Prelude.{◌≡◌, IsTrue, OnErr};
+ghost use Rattle.paged_memory.specs.Paged.{bytes_of};
+ghost use Rattle.bound_tables.specs.Walks.{is_configuration};
+ghost use Rattle.bound_tables.specs.Entries.{loaded_at, stored_at, entry_loaded, entry_stored, place_of, WritesEntry};
+
+use crate::parts::{three_words, word_at};
+use crate::walks::{Walk, table_entry};
+use paged_memory::Memory;
+
+/// A table entry: the lower bound of a pointer, its upper bound in one's complement form, and the pointer's value. 8 more bytes
+/// of a table entry are reserved, and no call writes them.
+#[derive(Clone, Copy, Debug, PartialEq, Eq)]
+pub struct Entry {
+    pub lb: u64,
+    pub held: u64,
+    pub value: u64,
+}
+
+fn read_entry(m: &Memory, at: u64) -> Result<Entry, Walk>
+    ensures { result ≡ loaded_at (bytes_of m.now) at }
+{
+    let mut bytes = [0u8; 24];
+    match m.read(at, &mut bytes) {
+        Ok(()) => Ok(Entry {
+            lb: word_at(&bytes, 0),
+            held: word_at(&bytes, 8),
+            value: word_at(&bytes, 16),
+        }),
+        Err(stop) => Err(Walk::Stop(stop)),
+    }
+}
+
+fn write_entry(m: &mut Memory, at: u64, e: Entry) -> Result<(), Walk>
+    ensures answer { WritesEntry at (stored_at (bytes_of m.old) e at) m.old m.new result }
+    ensures refused { OnErr result (m.new ≡ m.old) }
+{
+    match m.write(at, &three_words(e.lb, e.held, e.value)) {
+        Ok(()) => Ok(()),
+        Err(stop) => Err(Walk::Stop(stop)),
+    }
+}
+
+/// The table entry of the pointer at address `la`, by the configuration register. It is refused as `Invalid` exactly where
+/// `la` is below 2^47 and the directory entry names no table, and as `Unmapped` at `la` exactly where that is 2^47 or more, or
+/// at the first of the entry's 24 bytes that is in no region.
+pub fn load_entry(m: &Memory, cfg: u64, la: u64) -> Result<Entry, Walk>
+    requires { IsTrue (is_configuration cfg) }
+    ensures { result ≡ entry_loaded (bytes_of m.now) cfg la }
+{
+    match table_entry(m, cfg, la) {
+        Ok(at) => read_entry(m, at),
+        Err(refusal) => Err(refusal),
+    }
+}
+
+/// Makes this the table entry of the pointer at address `la`. It is refused as `load_entry`, but that the bytes have to be
+/// writable, and as `NoFrames` exactly where they are and the memory has too few frames for their pages. A refused call
+/// changes nothing.
+pub fn store_entry(m: &mut Memory, cfg: u64, la: u64, e: Entry) -> Result<(), Walk>
+    requires { IsTrue (is_configuration cfg) }
+    ensures answer { WritesEntry (place_of (bytes_of m.old) cfg la) (entry_stored (bytes_of m.old) cfg la e) m.old m.new result }
+    ensures refused { OnErr result (m.new ≡ m.old) }
+{
+    match table_entry(m, cfg, la) {
+        Ok(at) => write_entry(m, at, e),
+        Err(refusal) => Err(refusal),
+    }
+}
+
+#[cfg(test)]
+mod tests {
+    use super::*;
+    use paged_memory::MemStop;
+    use std::test::Fail;
+
+    const CFG: u64 = 0x4000_0000_0001;
+
+    const FOUR_BYTES: Entry = Entry {
+        lb: 0x2000_0000,
+        held: 0xffff_ffff_dfff_fffc,
+        value: 0x2000_0000,
+    };
+
+    #[test]
+    fn an_entry_stands_in_the_table_of_its_megabyte(rt: HostRuntime) -> Result<(), Fail> {
+        let mut m = Memory::make(rt.alloc(), 4)?;
+        assert_eq!(rt; m.store(0x4000_0000_1800, 8, 0x5000_0000_0001), Ok(()));
+        assert_eq!(rt; m.store(0x5000_0000_0038, 8, 7), Ok(()));
+        assert_eq!(rt; store_entry(&mut m, CFG, 0x3000_0008, FOUR_BYTES), Ok(()));
+        let table = [
+            (0x5000_0000_0020, 0x2000_0000),
+            (0x5000_0000_0028, 0xffff_ffff_dfff_fffc),
+            (0x5000_0000_0030, 0x2000_0000),
+            (0x5000_0000_0038, 7),
+        ];
+        for (at, word) in table {
+            assert_eq!(rt; m.load(at, 8), Ok(word), "{at}");
+        }
+        assert_eq!(rt;
+            load_entry(&m, 0x4000_0000_0003, 0x3000_000f),
+            Ok(FOUR_BYTES)
+        );
+        assert_eq!(rt; m.touched(), 2);
+        Ok(())
+    }
+
+    #[test]
+    fn walks_are_refused_by_their_causes(rt: HostRuntime) -> Result<(), Fail> {
+        let mut m = Memory::make(rt.alloc(), 1)?;
+        let words = [0x1200_0001, 0x20ff_fff1, 0x5000_0000_0001];
+        for (i, word) in words.into_iter().enumerate() {
+            assert_eq!(rt; m.store(0x4000_0000_0000 + 8 * i as u64, 8, word), Ok(()));
+        }
+        let full = MemStop::NoFrames {
+            in_use: 1,
+            capacity: 1,
+        };
+        let none = Entry {
+            lb: 0,
+            held: 0,
+            value: 0,
+        };
+        let table = [
+            (0x0, Ok(none), Walk::Stop(MemStop::Unmapped(0x1200_0000))),
+            (
+                0x10_0000,
+                Err(Walk::Stop(MemStop::Unmapped(0x2100_0000))),
+                Walk::Stop(MemStop::Unmapped(0x2100_0000)),
+            ),
+            (0x20_0000, Ok(none), Walk::Stop(full)),
+            (
+                0x7fff_ffff_ffff,
+                Err(Walk::Invalid {
+                    entry: 0x4000_3fff_fff8,
+                }),
+                Walk::Invalid {
+                    entry: 0x4000_3fff_fff8,
+                },
+            ),
+            (
+                0x8000_0000_0000,
+                Err(Walk::Stop(MemStop::Unmapped(0x8000_0000_0000))),
+                Walk::Stop(MemStop::Unmapped(0x8000_0000_0000)),
+            ),
+        ];
+        for (la, loaded, stored) in table {
+            assert_eq!(rt; load_entry(&m, CFG, la), loaded, "{la}");
+            assert_eq!(rt;
+                store_entry(&mut m, CFG, la, FOUR_BYTES),
+                Err(stored),
+                "{la}"
+            );
+        }
+        assert_eq!(rt; m.touched(), 1);
+        Ok(())
+    }
+}
