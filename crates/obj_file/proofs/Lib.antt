@@ -1,0 +1,3 @@
+pub mod Agree
+pub mod Loop
+pub mod ImageLaws

@@ -1,0 +1,4 @@
+pub mod InTurn
+pub mod Fields
+pub mod Image
+pub mod ImageReading
