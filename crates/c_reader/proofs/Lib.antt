@@ -1,6 +1,15 @@
 pub mod Acts
+pub mod Checks
+pub mod Deepest
+pub mod Fronts
+pub mod Good
+pub mod Levels
 pub mod Numerals
 pub mod Pieces
 pub mod Programs
+pub mod Relation
+pub mod Sources
 pub mod Spellings
+pub mod Steps
 pub mod Tokens
+pub mod Whole

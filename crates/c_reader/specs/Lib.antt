@@ -2,4 +2,12 @@ pub mod EarlyFault
 pub mod EarlyForm
 pub mod EarlyMeaning
 pub mod EarlyReading
+pub mod Grammar
+pub mod Lexemes
+pub mod Nesting
+pub mod Nodes
+pub mod Program
+pub mod Reading
+pub mod Rules
+pub mod SourceLaws
 pub mod Spelling
