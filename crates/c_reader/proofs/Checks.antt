@@ -1,5 +1,5 @@
 -- What makes a grammar readable from left to right, as tests that compute.
-use Rattle.std.proofs.Common.{◌≡◌, ℕ, zero, suc, ◌+◌, ◌<◌, Bool, true, false, not, ◌||◌, ◌&&◌, if◌then◌else◌, List, [], ◌∷◌, refl, sym, ◌∙◌, ap, subst, nat_lt}
+use Rattle.std.proofs.Common.{◌≡◌, ℕ, zero, suc, Bool, true, false, not, ◌||◌, ◌&&◌, if◌then◌else◌, List, [], ◌∷◌, refl, sym, nat_lt}
 use Rattle.c_tokens.specs.declared.class.Class.{Class}
 use Rattle.c_tokens.specs.declared.class.Class.TheVariants as k
 use Rattle.c_reader.specs.Lexemes.{same, among}
@@ -7,7 +7,7 @@ use Rattle.c_reader.specs.declared.parts.Level.{Level}
 use Rattle.c_reader.specs.declared.parts.Level.TheVariants as l
 use Rattle.c_reader.specs.Rules as n
 use Rattle.c_reader.specs.Rules.{N, Of, Rx, eps, no_else, tok, seq, alt, map, nest, scope, call}
-use Rattle.c_reader.specs.Grammar.{rule, first_of, others_of}
+use Rattle.c_reader.specs.Grammar.{rule}
 use Rattle.c_reader.specs.Reading.{width_begins, base_begins, statement_begins, begins, skips_of, skips, starts, rank}
 
 -- ---- tests over all kinds
@@ -374,6 +374,7 @@ all_checked n.Statements = refl
 all_checked n.Statement = refl
 all_checked n.Local = refl
 all_checked n.Branch = refl
+all_checked n.Nested = refl
 all_checked n.Condition = refl
 all_checked n.IfElse = refl
 all_checked n.Otherwise = refl

@@ -1,22 +1,20 @@
 -- Where reading stops as too deep stands the first token that opens one nesting too many.
-use Rattle.std.proofs.Common.{◌≡◌, ℕ, zero, suc, ◌+◌, ◌*◌, ◌<◌, ◌≤◌, Bool, true, false, List, [], ◌∷◌, ◌++◌, append_assoc, length, Result, Ok, Err, refl, sym, ◌∙◌, ap, subst, inl, inr, nat_lt, arith, lit≤}
+use Rattle.std.proofs.Common.{◌≡◌, ℕ, suc, ◌<◌, ◌≤◌, List, [], ◌∷◌, ◌++◌, append_assoc, length, Ok, Err, refl, sym, ◌∙◌, ap, subst, arith}
 use Rattle.std.specs.List.{All}
-use Rattle.std.proofs.lemmas.List.{length-append, append_cancel_right, append_cancel_left}
+use Rattle.std.proofs.lemmas.List.{append_cancel_right, append_cancel_left}
 use Rattle.std.proofs.lemmas.List.Elements.{All-head, All-tail}
 use Rattle.mx_base.specs.declared.places.Place.{Place}
 use Rattle.c_tree.specs.declared.tree.Item.{Item}
-use Rattle.c_reader.specs.Lexemes.{Lexeme, same, look, among}
+use Rattle.c_reader.specs.Lexemes.{Lexeme, look}
 use Rattle.c_reader.specs.Rules as n
 use Rattle.c_reader.specs.Rules.{call}
-use Rattle.c_reader.specs.Grammar.{Reads}
-use Rattle.c_reader.specs.Nesting.{Nests, HasLevels, FirstOver, TooDeep, most_nestings}
-use Rattle.c_reader.specs.Reading.{Out, unfit, too_deep, parse, limit, Allow}
-use Rattle.c_reader.specs.Program.{IsSource, Begins, Fails, FirstBad, place_at}
-use Rattle.c_reader.proofs.Good.{Good, Parsed, Stuck, Begun, Quiet, Calm}
-use Rattle.c_reader.proofs.Steps.{good_parse}
-use Rattle.c_reader.proofs.Levels.{Deep, Low, High, deep_parse, under, levelled, forget}
+use Rattle.c_reader.specs.Nesting.{Nests, FirstOver, TooDeep, most_nestings}
+use Rattle.c_reader.specs.Reading.{Out, unfit, too_deep, parse, limit}
+use Rattle.c_reader.specs.Program.{IsSource, place_at}
+use Rattle.c_reader.proofs.Good.{Begun}
+use Rattle.c_reader.proofs.Levels.{Deep, High, deep_parse, levelled, forget}
 use Rattle.c_reader.proofs.Fronts.{Same, Alike, same_parse}
-use Rattle.c_reader.proofs.Whole.{quiet_end, calm_end, good_at, one_more, not_stuck}
+use Rattle.c_reader.proofs.Whole.{quiet_end, calm_end, good_at, not_stuck}
 
 deep_at : (ts : List Lexeme) (o : Out (List Item)) → parse limit n.Source 0 ts ≡ o → Deep most_nestings (call n.Source) 0 ts o
 deep_at ts o e = subst (Deep most_nestings (call n.Source) 0 ts) e (deep_parse most_nestings n.Source 0 (omega arith) ts)

@@ -1,13 +1,12 @@
 -- Reading depends on the tokens that it reads and on the class of the next one alone.
-use Rattle.std.proofs.Common.{◌≡◌, ℕ, zero, suc, ◌+◌, ◌*◌, ◌<◌, ◌≤◌, Bool, true, false, not, ◌||◌, ◌&&◌, if◌then◌else◌, List, [], ◌∷◌, ◌++◌, append_assoc, length, Result, Ok, Err, refl, sym, ◌∙◌, ap, subst, arith}
+use Rattle.std.proofs.Common.{◌≡◌, ℕ, zero, suc, ◌+◌, ◌<◌, Bool, true, false, if◌then◌else◌, List, [], ◌∷◌, ◌++◌, append_assoc, Ok, Err, refl, sym, ◌∙◌, ap, subst, arith}
 use Rattle.c_tokens.specs.declared.class.Class.{Class}
 use Rattle.c_tokens.specs.declared.class.Class.TheVariants as k
 use Rattle.c_reader.specs.Lexemes.{Lexeme, same, look, among}
-use Rattle.c_reader.specs.Rules as n
 use Rattle.c_reader.specs.Rules.{N, Of, Rx, eps, no_else, tok, seq, alt, map, nest, scope, call, after_scope}
 use Rattle.c_reader.specs.Grammar.{rule}
-use Rattle.c_reader.specs.Reading.{Out, Halt, unfit, too_deep, Allow, deeper, and_then, skips, starts, take_tok, parse_with, size, parse}
-use Rattle.c_reader.proofs.Good.{Calls, Reader, look_front}
+use Rattle.c_reader.specs.Reading.{Out, unfit, too_deep, Allow, deeper, and_then, starts, take_tok, parse_with, size, parse}
+use Rattle.c_reader.proofs.Good.{Calls, look_front}
 use Rattle.c_reader.proofs.Steps.{Below, calls_mono, calls_of, parse_shrinks, parse_step}
 
 -- at each other text with the same front and the same next class reading gives the same

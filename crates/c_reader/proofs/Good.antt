@@ -1,16 +1,15 @@
 -- What reading from left to right finds: the one value, or the first token with which nothing can be read.
-use Rattle.std.proofs.Common.{◌≡◌, ℕ, zero, suc, ◌+◌, ◌<◌, ◌≤◌, Bool, true, false, not, ◌||◌, ◌&&◌, if◌then◌else◌, ◌⊎◌, inl, inr, List, [], ◌∷◌, ◌++◌, append_assoc, Result, Ok, Err, refl, sym, ◌∙◌, ap, subst, nat_lt, arith}
+use Rattle.std.proofs.Common.{◌≡◌, ℕ, zero, suc, ◌+◌, Bool, true, false, not, ◌||◌, ◌&&◌, if◌then◌else◌, ◌⊎◌, inl, inr, List, [], ◌∷◌, ◌++◌, append_assoc, Ok, Err, refl, sym, ◌∙◌, ap, subst}
 use denote.Enum.Bare.{true_same}
 use Rattle.c_tokens.specs.contracts.class.Class.{the_type}
 use Rattle.c_tokens.specs.declared.class.Class.{Class}
 use Rattle.c_tokens.specs.declared.class.Class.TheVariants as k
 use Rattle.c_reader.specs.Lexemes.{Lexeme, same, look, among}
-use Rattle.c_reader.specs.Rules as n
 use Rattle.c_reader.specs.Rules.{N, Of, Rx, eps, no_else, tok, seq, alt, map, nest, scope, call, after_scope, Reads_with}
-use Rattle.c_reader.specs.Grammar.{rule, Reads_within, Reads}
-use Rattle.c_reader.specs.Reading.{Out, Halt, unfit, too_deep, Allow, deeper, and_then, begins, skips_of, skips, starts, take_tok, parse_with}
-use Rattle.c_reader.proofs.Checks.{kinds, all_of, every, and_left, and_right, or_left, or_right, not_both, is_false, is_not, clash, nulls_of, nulls, more, goes, calm, fine, ends_with, ends_within}
-use Rattle.c_reader.proofs.Relation.{First, first, closes, opens, skips_nulls, and_true, or_left_true, or_right_true, table_fine, table_calm, table_begins, table_nulls, table_goes, table_ends}
+use Rattle.c_reader.specs.Grammar.{rule, Reads}
+use Rattle.c_reader.specs.Reading.{Out, unfit, too_deep, Allow, deeper, and_then, skips, starts, take_tok, parse_with}
+use Rattle.c_reader.proofs.Checks.{kinds, all_of, every, and_left, and_right, or_left, or_right, not_both, is_false, is_not, clash, nulls, more, calm, fine, ends_with, ends_within}
+use Rattle.c_reader.proofs.Relation.{First, first, closes, opens, skips_nulls, and_true, or_left_true, table_fine, table_calm, table_begins, table_nulls, table_goes, table_ends}
 
 -- ---- the statement
 

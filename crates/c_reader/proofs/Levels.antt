@@ -1,17 +1,16 @@
 -- The nestings that are open at the tokens of what is read: none is over the limit before reading stops, and where it stops as too deep one is.
-use Rattle.std.proofs.Common.{◌≡◌, ℕ, zero, suc, ◌+◌, ◌-◌, ◌*◌, ◌<◌, ◌≤◌, Bool, true, false, not, ◌||◌, ◌&&◌, if◌then◌else◌, ◌⊎◌, inl, inr, List, [], ◌∷◌, ◌++◌, append_assoc, length, Result, Ok, Err, refl, sym, ◌∙◌, ap, subst, nat_lt, arith}
+use Rattle.std.proofs.Common.{◌≡◌, ℕ, zero, suc, ◌+◌, ◌<◌, ◌≤◌, Bool, true, false, ◌||◌, ◌&&◌, if◌then◌else◌, ◌⊎◌, inl, inr, List, [], ◌∷◌, ◌++◌, append_assoc, length, Ok, Err, refl, sym, ◌∙◌, ap, subst, nat_lt, arith}
 use Rattle.std.specs.List.{All}
-use Rattle.std.proofs.lemmas.List.{length-append, append_cancel_right}
+use Rattle.std.proofs.lemmas.List.{length-append}
 use Rattle.std.proofs.lemmas.List.Elements.{All-nil, All-cons, All-append}
 use borrow.Author.Tests.{ltb-true, ltb-false}
 use Rattle.c_tokens.specs.declared.class.Class.{Class}
 use Rattle.c_tokens.specs.declared.class.Class.TheVariants as k
 use Rattle.c_reader.specs.Lexemes.{Lexeme, same, look, among}
-use Rattle.c_reader.specs.Rules as n
 use Rattle.c_reader.specs.Rules.{N, Of, Rx, eps, no_else, tok, seq, alt, map, nest, scope, call, after_scope, Reads_with}
 use Rattle.c_reader.specs.Grammar.{rule, Reads_within, Reads}
 use Rattle.c_reader.specs.Nesting.{Nests_with, Nests_within, Nests, FirstOver}
-use Rattle.c_reader.specs.Reading.{Out, Halt, unfit, too_deep, Allow, deeper, and_then, begins, skips_of, skips, starts, take_tok, parse_with, size, parse}
+use Rattle.c_reader.specs.Reading.{Out, unfit, too_deep, Allow, deeper, and_then, skips_of, skips, starts, take_tok, parse_with, size, parse}
 use Rattle.c_reader.proofs.Checks.{and_left, and_right, or_left, or_right, clash, is_not, fine}
 use Rattle.c_reader.proofs.Relation.{and_true, or_left_true, or_right_true, table_fine, table_skips}
 use Rattle.c_reader.proofs.Good.{Quiet, Reader, Calls, look_front, quiet_before, quiet_name, not_right, not_left}

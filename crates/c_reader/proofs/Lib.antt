@@ -1,6 +1,8 @@
 pub mod Acts
 pub mod Checks
 pub mod Deepest
+pub mod FormedNodes
+pub mod FormedTrees
 pub mod Fronts
 pub mod Good
 pub mod Levels
@@ -8,8 +10,11 @@ pub mod Numerals
 pub mod Pieces
 pub mod Programs
 pub mod Relation
+pub mod SoundTokens
 pub mod Sources
 pub mod Spellings
 pub mod Steps
 pub mod Tokens
 pub mod Whole
+pub mod Words
+pub mod Written

@@ -1,13 +1,12 @@
 -- The grammar's relation by itself: heights, and what may come first.
-use Rattle.std.proofs.Common.{◌≡◌, ℕ, zero, suc, ◌+◌, ◌<◌, ◌≤◌, Bool, true, false, not, ◌||◌, ◌&&◌, if◌then◌else◌, ◌⊎◌, inl, inr, List, [], ◌∷◌, refl, sym, ◌∙◌, ap, subst, nat_lt, arith}
+use Rattle.std.proofs.Common.{◌≡◌, ℕ, zero, suc, ◌+◌, ◌≤◌, Bool, true, false, not, ◌||◌, ◌&&◌, if◌then◌else◌, ◌⊎◌, inl, inr, List, ◌∷◌, refl, sym, ◌∙◌, ap, subst, arith}
 use Rattle.c_tokens.specs.declared.class.Class.{Class}
-use Rattle.c_tokens.specs.declared.class.Class.TheVariants as k
-use Rattle.c_reader.specs.Lexemes.{Lexeme, same, look, among}
+use Rattle.c_reader.specs.Lexemes.{Lexeme, look, among}
 use Rattle.c_reader.specs.Rules as n
 use Rattle.c_reader.specs.Rules.{N, Of, Rx, eps, no_else, tok, seq, alt, map, nest, scope, call, Reads_with}
 use Rattle.c_reader.specs.Grammar.{rule, Reads_within, Reads}
 use Rattle.c_reader.specs.Reading.{begins, skips_of, skips, starts, rank}
-use Rattle.c_reader.proofs.Checks.{kinds, all_of, every, and_left, and_right, checked, all_checked, nulls_of, nulls, more, goes, calm, fine, tables, equal, implies, ends_within, lower}
+use Rattle.c_reader.proofs.Checks.{every, and_left, and_right, all_checked, nulls_of, nulls, more, goes, calm, fine, tables, equal, implies, ends_within, lower}
 
 -- ---- heights
 

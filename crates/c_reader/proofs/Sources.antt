@@ -1,15 +1,13 @@
 -- A source has one tree, and what is none has one first token that does not fit.
-use Rattle.std.proofs.Common.{◌≡◌, ◌⊎◌, inl, inr, ℕ, zero, suc, ◌+◌, ◌*◌, ◌<◌, ◌≤◌, Bool, true, false, if◌then◌else◌, List, [], ◌∷◌, ◌++◌, append_assoc, append-nil, length, Result, Ok, Err, refl, sym, ◌∙◌, ap, subst, arith}
+use Rattle.std.proofs.Common.{◌≡◌, ◌⊎◌, inl, inr, ℕ, zero, suc, ◌+◌, ◌<◌, Bool, true, false, if◌then◌else◌, List, [], ◌∷◌, ◌++◌, append_assoc, append-nil, Ok, Err, refl, sym, ◌∙◌, ap, subst, arith}
 use Rattle.mx_base.specs.declared.places.Place.{Place}
-use Rattle.c_tokens.specs.declared.class.Class.{Class}
 use Rattle.c_tokens.specs.declared.class.Class.TheVariants as k
 use Rattle.c_tree.specs.declared.tree.Item.{Item}
 use Rattle.c_reader.specs.Lexemes.{Lexeme, same, look, among}
 use Rattle.c_reader.specs.Rules as n
 use Rattle.c_reader.specs.Rules.{N, Of, Rx, eps, no_else, tok, seq, alt, map, nest, scope, call, after_scope}
-use Rattle.c_reader.specs.Grammar.{rule, Reads}
-use Rattle.c_reader.specs.Nesting.{TooDeep}
-use Rattle.c_reader.specs.Reading.{Out, Halt, unfit, too_deep, Allow, deeper, and_then, starts, take_tok, parse_with, size, parse, limit}
+use Rattle.c_reader.specs.Grammar.{rule}
+use Rattle.c_reader.specs.Reading.{Out, unfit, too_deep, Allow, and_then, starts, take_tok, parse_with, size, parse, limit}
 use Rattle.c_reader.specs.Program.{IsSource, Begins, Fails, FirstBad, place_at}
 use Rattle.c_reader.specs.SourceLaws.{OneTree, SourceOrBad, BadIsNone, OneBad, OneDeep}
 use Rattle.c_reader.proofs.Good.{Calls}

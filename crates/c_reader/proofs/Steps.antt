@@ -1,17 +1,16 @@
 -- Reading does not depend on the bound of its recursion, and what it finds.
-use Rattle.std.proofs.Common.{◌≡◌, ℕ, zero, suc, ◌+◌, ◌*◌, ◌<◌, ◌≤◌, Bool, true, false, not, ◌||◌, ◌&&◌, if◌then◌else◌, List, [], ◌∷◌, ◌++◌, length, Result, Ok, Err, refl, sym, ◌∙◌, ap, subst, nat_lt, arith, rules, lit<, inr}
+use Rattle.std.proofs.Common.{◌≡◌, ℕ, zero, suc, ◌+◌, ◌*◌, ◌<◌, ◌≤◌, Bool, true, false, ◌||◌, ◌&&◌, if◌then◌else◌, List, [], ◌∷◌, ◌++◌, length, Ok, Err, refl, sym, ◌∙◌, ap, subst, arith, lit<, inr}
 use borrow.Author.Tests.{ltb-true}
-use Rattle.c_tokens.specs.declared.class.Class.{Class}
 use Rattle.c_tokens.specs.declared.class.Class.TheVariants as k
 use Rattle.c_reader.specs.Lexemes.{Lexeme, same, look, among}
 use Rattle.c_reader.specs.declared.parts.Level.TheVariants as l
 use Rattle.c_reader.specs.Rules as n
 use Rattle.c_reader.specs.Rules.{N, Of, Rx, eps, no_else, tok, seq, alt, map, nest, scope, call, after_scope, Reads_with}
-use Rattle.c_reader.specs.Grammar.{rule, Reads_within, Reads}
-use Rattle.c_reader.specs.Reading.{Out, Halt, unfit, too_deep, Allow, deeper, and_then, begins, skips_of, skips, starts, take_tok, parse_with, rank, size, parse_within, parse, steps_with, steps, limit}
+use Rattle.c_reader.specs.Grammar.{rule, Reads}
+use Rattle.c_reader.specs.Reading.{Out, unfit, too_deep, Allow, deeper, and_then, skips_of, skips, starts, take_tok, parse_with, rank, size, parse_within, parse, steps_with, steps, limit}
 use Rattle.c_reader.proofs.Checks.{and_left, and_right, clash, lower, fine}
 use Rattle.c_reader.proofs.Relation.{table_skips, table_lower, table_fine}
-use Rattle.c_reader.proofs.Good.{Good, Calls, good, good_name, Reader, Meets, Parsed, Stuck, Begun, Completes, Calm}
+use Rattle.c_reader.proofs.Good.{Good, Calls, good, good_name, Reader, Meets, Begun, Completes}
 
 -- ---- tokens are used up
 
@@ -139,6 +138,7 @@ rank_small n.Statements = lit< tt
 rank_small n.Statement = lit< tt
 rank_small n.Local = lit< tt
 rank_small n.Branch = lit< tt
+rank_small n.Nested = lit< tt
 rank_small n.Condition = lit< tt
 rank_small n.IfElse = lit< tt
 rank_small n.Otherwise = lit< tt

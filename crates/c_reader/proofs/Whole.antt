@@ -1,13 +1,13 @@
 -- Reading a source to the end of its tokens.
-use Rattle.std.proofs.Common.{◌≡◌, ℕ, ◌<◌, length, arith, Bool, true, false, List, [], ◌∷◌, ◌++◌, append_assoc, append-nil, Result, Ok, Err, refl, sym, ◌∙◌, ap, subst, inl, inr}
+use Rattle.std.proofs.Common.{◌≡◌, ℕ, List, [], ◌∷◌, ◌++◌, append_assoc, append-nil, Ok, Err, refl, sym, subst, inl, inr}
 use Rattle.mx_base.specs.declared.places.Place.{Place}
 use Rattle.c_tree.specs.declared.tree.Item.{Item}
-use Rattle.c_reader.specs.Lexemes.{Lexeme, same, look, among}
+use Rattle.c_reader.specs.Lexemes.{Lexeme, same}
 use Rattle.c_reader.specs.Rules as n
 use Rattle.c_reader.specs.Rules.{call}
 use Rattle.c_reader.specs.Grammar.{Reads}
-use Rattle.c_reader.specs.Reading.{Out, unfit, too_deep, parse, limit, Allow}
-use Rattle.c_reader.specs.Program.{IsSource, Begins, Fails, FirstBad, place_at}
+use Rattle.c_reader.specs.Reading.{Out, unfit, parse, Allow}
+use Rattle.c_reader.specs.Program.{IsSource, Fails, FirstBad, place_at}
 use Rattle.c_reader.proofs.Good.{Good, Parsed, Stuck, Quiet, Calm}
 use Rattle.c_reader.proofs.Steps.{good_parse}
 

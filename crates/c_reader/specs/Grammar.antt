@@ -1,5 +1,5 @@
 -- The grammar of the language.
-use Rattle.std.specs.Prelude.{◌≡◌, ◌⊎◌, ℕ, zero, suc, ◌+◌, Bool, true, false, List, [], ◌∷◌, ◌++◌, Option, Some, None}
+use Rattle.std.specs.Prelude.{ℕ, zero, suc, ◌+◌, true, false, List, [], ◌∷◌, ◌++◌, Option, Some, None}
 use Rattle.c_tokens.specs.declared.class.Class.{Class}
 use Rattle.c_tokens.specs.declared.class.Class.TheVariants as k
 use Rattle.mx_base.specs.declared.places.Place.{Place}
@@ -89,6 +89,19 @@ others_of l.BitOr = []
 others_of l.Both = []
 others_of l.Either = []
 
+-- the words for widths, after `char`
+abbrev pub other_widths : List Class
+other_widths = k.Short ∷ k.Int ∷ k.Long ∷ []
+
+-- the operators before an operand, after `-`
+abbrev pub other_prefixes : List Class
+other_prefixes = k.Tilde ∷ k.Not ∷ k.Star ∷ k.And ∷ k.PlusPlus ∷ k.MinusMinus ∷ []
+
+-- the operators of assignments, after `=`
+abbrev pub other_assigners : List Class
+other_assigners =
+    k.PlusAssign ∷ k.MinusAssign ∷ k.StarAssign ∷ k.SlashAssign ∷ k.PercentAssign ∷ k.AndAssign ∷ k.OrAssign ∷ k.XorAssign ∷ k.ShiftLeftAssign ∷ k.ShiftRightAssign ∷ []
+
 -- what the operators of a level stand between
 abbrev pub side_of : Level → Rx Operand
 side_of l.Product = call n.Unary
@@ -125,7 +138,7 @@ rule n.AfterVoid =
     or (eps => (λ _. λ start. []))
 rule n.Parameter = call n.AnyBase ~ call (n.Stars 255) ~ name => (λ p. made.parameter p.0.start p.0.base p.1.0 p.1.1)
 rule n.MoreParameters = many (mark k.Comma ~ call n.Parameter ~ call n.MoreParameters => (λ p. p.1))
-rule n.Width = tok made.width_at k.Char (k.Short ∷ k.Int ∷ k.Long ∷ [])
+rule n.Width = tok made.width_at k.Char other_widths
 rule n.MaybeWidth = (call n.Width => (λ p. made.unsigned_of p.1)) or (eps => (λ _. made.unsigned_of I32))
 rule n.Integer =
     (mark k.Signed ~ call n.Width => (λ p. (p.0, p.1.1)))
@@ -168,13 +181,14 @@ rule n.Statement =
     or call n.Simple
 rule n.Local = call n.AnyBase ~ call n.Initialised ~ call n.MoreInitialised ~ mark k.Semicolon => (λ p. (p.0.start, made.locals_of p.0 p.1.0 p.1.1.0))
 rule n.Branch = (call n.Local => (λ p. made.stmt p.0 (s.Block p.1))) or call n.Statement
+rule n.Nested = within (call n.Branch)
 rule n.Condition = bracketed k.OpenParen (call n.Assignment) k.CloseParen => (λ p. p.1.tree)
-rule n.IfElse = mark k.If ~ call n.Condition ~ within (call n.Branch) ~ call n.Otherwise => (λ p. made.stmt p.0 (s.If p.1.0 p.1.1.0 p.1.1.1))
-rule n.Otherwise = (mark k.Else ~ within (call n.Branch) => (λ p. Some p.1)) or (no_else => (λ _. None))
-rule n.WhileDo = mark k.While ~ call n.Condition ~ within (call n.Branch) => (λ p. made.stmt p.0 (s.While p.1.0 p.1.1))
-rule n.DoWhile = mark k.Do ~ within (call n.Branch) ~ mark k.While ~ call n.Condition ~ mark k.Semicolon => (λ p. made.stmt p.0 (s.DoWhile p.1.0 p.1.1.1.0))
+rule n.IfElse = mark k.If ~ call n.Condition ~ call n.Nested ~ call n.Otherwise => (λ p. made.stmt p.0 (s.If p.1.0 p.1.1.0 p.1.1.1))
+rule n.Otherwise = (mark k.Else ~ call n.Nested => (λ p. Some p.1)) or (no_else => (λ _. None))
+rule n.WhileDo = mark k.While ~ call n.Condition ~ call n.Nested => (λ p. made.stmt p.0 (s.While p.1.0 p.1.1))
+rule n.DoWhile = mark k.Do ~ call n.Nested ~ mark k.While ~ call n.Condition ~ mark k.Semicolon => (λ p. made.stmt p.0 (s.DoWhile p.1.0 p.1.1.1.0))
 rule n.ForDo =
-    mark k.For ~ bracketed k.OpenParen (call n.MaybeExpression ~ mark k.Semicolon ~ call n.MaybeExpression ~ mark k.Semicolon ~ call n.MaybeExpression) k.CloseParen ~ within (call n.Branch)
+    mark k.For ~ bracketed k.OpenParen (call n.MaybeExpression ~ mark k.Semicolon ~ call n.MaybeExpression ~ mark k.Semicolon ~ call n.MaybeExpression) k.CloseParen ~ call n.Nested
     => (λ p. made.stmt p.0 (s.For p.1.0.1.0 p.1.0.1.1.1.0 p.1.0.1.1.1.1.1 p.1.1))
 rule n.Returned = mark k.Return ~ call n.MaybeExpression ~ mark k.Semicolon => (λ p. made.stmt p.0 (s.Return p.1.0))
 rule n.Simple =
@@ -183,7 +197,7 @@ rule n.Simple =
 rule n.MaybeExpression = (level (call n.Assignment) => (λ a. Some a.tree)) or (eps => (λ _. None))
 rule n.Assignment = call n.Conditional ~ call n.AssignmentTail => (λ p. p.1 p.0)
 rule n.AssignmentTail =
-    (nest (one_of k.Assign (k.PlusAssign ∷ k.MinusAssign ∷ k.StarAssign ∷ k.SlashAssign ∷ k.PercentAssign ∷ k.AndAssign ∷ k.OrAssign ∷ k.XorAssign ∷ k.ShiftLeftAssign ∷ k.ShiftRightAssign ∷ [])) ~ call n.Assignment => (λ p. λ left. made.assigned p.0 left p.1))
+    (nest (one_of k.Assign other_assigners) ~ call n.Assignment => (λ p. λ left. made.assigned p.0 left p.1))
     or (eps => (λ _. λ left. left))
 rule n.Conditional = call (n.Binary l.Either) ~ call n.ConditionalTail => (λ p. p.1 p.0)
 rule n.ConditionalTail =
@@ -199,7 +213,7 @@ rule n.Opened =
     (call n.TypeName ~ mark k.CloseParen ~ call n.Unary => (λ p. λ start. made.cast_at start p.0 p.1.1))
     or (closing (call n.Assignment ~ mark k.CloseParen) ~ call n.Parts => (λ p. λ start. p.1 (made.enclosed start p.0.0)))
 rule n.Plain =
-    (nest (one_of k.Minus (k.Tilde ∷ k.Not ∷ k.Star ∷ k.And ∷ k.PlusPlus ∷ k.MinusMinus ∷ [])) ~ call n.Unary => (λ p. made.prefixed p.0 p.1))
+    (nest (one_of k.Minus other_prefixes) ~ call n.Unary => (λ p. made.prefixed p.0 p.1))
     or (nest (mark k.SizeOf) ~ call n.Sized => (λ p. p.1 p.0))
     or (call n.Atom ~ call n.Parts => (λ p. p.1 p.0))
 rule n.Sized =

@@ -1,5 +1,5 @@
 -- What the grammar sees of a token: its place, its class and its bytes.
-use Rattle.std.specs.Prelude.{ℕ, ◌-◌, Bool, true, false, ◌||◌, List, [], ◌∷◌, map, take, drop}
+use Rattle.std.specs.Prelude.{ℕ, ◌-◌, Bool, false, ◌||◌, List, [], ◌∷◌, map, take, drop}
 use denote.Enum.Bare.{sameb}
 use Rattle.mx_base.specs.declared.places.Place.{Place}
 use Rattle.c_tokens.specs.contracts.class.Class.{the_type}

@@ -2,6 +2,7 @@ pub mod EarlyFault
 pub mod EarlyForm
 pub mod EarlyMeaning
 pub mod EarlyReading
+pub mod FormedLaw
 pub mod Grammar
 pub mod Lexemes
 pub mod Nesting
@@ -11,3 +12,4 @@ pub mod Reading
 pub mod Rules
 pub mod SourceLaws
 pub mod Spelling
+pub mod WrittenLaws

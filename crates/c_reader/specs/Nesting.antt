@@ -1,5 +1,5 @@
 -- How many nestings are open at each token of what a rule reads.
-use Rattle.std.specs.Prelude.{◌≡◌, ◌⊎◌, ℕ, zero, suc, ◌+◌, ◌<◌, ◌≤◌, Bool, true, false, List, [], ◌∷◌, ◌++◌, length, All}
+use Rattle.std.specs.Prelude.{◌≡◌, ◌⊎◌, ℕ, zero, suc, ◌+◌, ◌<◌, ◌≤◌, true, false, List, [], ◌∷◌, ◌++◌, length, All}
 use Rattle.mx_base.specs.declared.places.Place.{Place}
 use Rattle.c_tokens.specs.declared.class.Class.TheVariants as k
 use Rattle.c_tree.specs.declared.tree.Item.{Item}

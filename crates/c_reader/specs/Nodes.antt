@@ -10,13 +10,11 @@ use Rattle.c_tokens.specs.declared.numbers.Number.{Number}
 use Rattle.c_tokens.specs.Numbers.{number_of}
 use Rattle.c_tokens.specs.Quotes.{text_of, character_of}
 use Rattle.c_tree.specs.declared.tree.Base.{Base}
-use Rattle.c_tree.specs.declared.tree.Base.TheVariants as b
 use Rattle.c_tree.specs.declared.tree.Decl.{Decl}
 use Rattle.c_tree.specs.declared.tree.Expr.{Expr}
 use Rattle.c_tree.specs.declared.tree.ExprKind.{ExprKind}
 use Rattle.c_tree.specs.declared.tree.ExprKind.TheVariants as e
 use Rattle.c_tree.specs.declared.tree.Init.{Init}
-use Rattle.c_tree.specs.declared.tree.InitKind.{InitKind}
 use Rattle.c_tree.specs.declared.tree.InitKind.TheVariants as i
 use Rattle.c_tree.specs.declared.tree.Stmt.{Stmt}
 use Rattle.c_tree.specs.declared.tree.StmtKind.{StmtKind}

@@ -1,12 +1,12 @@
 -- How a rule is read from left to right: an alternative is taken exactly where the next token begins it. At most so many nestings may be open.
-use Rattle.std.specs.Prelude.{nat_lt, ◌≡◌, ℕ, zero, suc, ◌+◌, ◌*◌, Bool, true, false, not, ◌||◌, ◌&&◌, if◌then◌else◌, List, [], ◌∷◌, length, Result, Ok, Err}
+use Rattle.std.specs.Prelude.{nat_lt, ℕ, zero, suc, ◌+◌, ◌*◌, Bool, true, false, ◌||◌, ◌&&◌, if◌then◌else◌, List, [], ◌∷◌, length, Result, Ok, Err}
 use Rattle.c_tokens.specs.declared.class.Class.{Class}
 use Rattle.c_tokens.specs.declared.class.Class.TheVariants as k
 use Rattle.c_reader.specs.declared.parts.Level.TheVariants as l
 use Rattle.c_reader.specs.Lexemes.{Lexeme, same, look, among}
 use Rattle.c_reader.specs.Rules as n
 use Rattle.c_reader.specs.Rules.{N, Of, Rx, eps, no_else, tok, seq, alt, map, nest, scope, call, after_scope}
-use Rattle.c_reader.specs.Grammar.{rule, first_of, others_of}
+use Rattle.c_reader.specs.Grammar.{rule, first_of, others_of, other_prefixes}
 
 -- where reading stops: the tokens from the one that does not fit, or from the one that opens one nesting too many
 pub data Halt : Type 0 where
@@ -34,6 +34,9 @@ base_begins = k.Void ∷ k.Struct ∷ integer_begins
 
 abbrev pub expression_begins : List Class
 expression_begins = k.OpenParen ∷ k.Minus ∷ k.Tilde ∷ k.Not ∷ k.Star ∷ k.And ∷ k.PlusPlus ∷ k.MinusMinus ∷ k.SizeOf ∷ k.Number ∷ k.Character ∷ k.Text ∷ k.Name ∷ []
+
+abbrev pub prefix_begins : List Class
+prefix_begins = k.Minus ∷ other_prefixes
 
 abbrev pub statement_begins : List Class
 statement_begins = k.OpenBrace ∷ k.If ∷ k.While ∷ k.Do ∷ k.For ∷ k.Break ∷ k.Continue ∷ k.Return ∷ k.Semicolon ∷ expression_begins
@@ -72,6 +75,7 @@ begins n.Statements = k.Void ∷ k.Char ∷ k.Short ∷ k.Int ∷ k.Long ∷ k.S
 begins n.Statement = statement_begins
 begins n.Local = base_begins
 begins n.Branch = k.Void ∷ k.Char ∷ k.Short ∷ k.Int ∷ k.Long ∷ k.Signed ∷ k.Unsigned ∷ k.Struct ∷ statement_begins
+begins n.Nested = k.Void ∷ k.Char ∷ k.Short ∷ k.Int ∷ k.Long ∷ k.Signed ∷ k.Unsigned ∷ k.Struct ∷ statement_begins
 begins n.Condition = k.OpenParen ∷ []
 begins n.IfElse = k.If ∷ []
 begins n.Otherwise = k.Else ∷ []
@@ -122,6 +126,7 @@ skips_of n.Block = false
 skips_of n.Statement = false
 skips_of n.Local = false
 skips_of n.Branch = false
+skips_of n.Nested = false
 skips_of n.Condition = false
 skips_of n.IfElse = false
 skips_of n.WhileDo = false
@@ -213,6 +218,7 @@ rank n.Statements = 27
 rank n.Statement = 26
 rank n.Local = 4
 rank n.Branch = 27
+rank n.Nested = 28
 rank n.Simple = 25
 rank n.MaybeExpression = 25
 rank n.Assignment = 24

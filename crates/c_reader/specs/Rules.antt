@@ -1,5 +1,5 @@
 -- Rules of a grammar as data, and what they relate.
-use Rattle.std.specs.Prelude.{◌≡◌, ◌⊎◌, ℕ, ◌-◌, Bool, true, false, List, [], ◌∷◌, Option}
+use Rattle.std.specs.Prelude.{◌≡◌, ◌⊎◌, ℕ, ◌-◌, Bool, true, false, List, ◌∷◌, Option}
 use Rattle.mx_base.specs.declared.places.Place.{Place}
 use Rattle.mx_base.specs.declared.numbers.IntKind.{IntKind}
 use Rattle.c_tokens.specs.declared.class.Class.{Class}
@@ -10,7 +10,6 @@ use Rattle.c_tree.specs.declared.tree.Expr.{Expr}
 use Rattle.c_tree.specs.declared.tree.Init.{Init}
 use Rattle.c_tree.specs.declared.tree.Stmt.{Stmt}
 use Rattle.c_tree.specs.declared.tree.Item.{Item}
-use Rattle.c_reader.specs.declared.parts.Mark.{Mark}
 use Rattle.c_reader.specs.declared.parts.Named.{Named}
 use Rattle.c_reader.specs.declared.parts.Operand.{Operand}
 use Rattle.c_reader.specs.declared.parts.Typed.{Typed}
@@ -27,7 +26,7 @@ pub data N : Type 0 where
   -- at most so many stars
   Stars : ℕ → N
   Member Members Declared MoreDeclared Counts Initialised MoreInitialised MaybeInit Initialiser MoreInitialisers : N
-  Block Statements Statement Local Branch Condition IfElse Otherwise WhileDo DoWhile ForDo Returned Simple : N
+  Block Statements Statement Local Branch Nested Condition IfElse Otherwise WhileDo DoWhile ForDo Returned Simple : N
   MaybeExpression Assignment AssignmentTail Conditional ConditionalTail : N
   -- an operand of a level, operands with operators of the level between them, and what stands after the first of them
   Side Binary BinaryTail : Level → N
@@ -67,6 +66,7 @@ Of Statements = List Stmt
 Of Statement = Stmt
 Of Local = (Place × List Stmt)
 Of Branch = Stmt
+Of Nested = Stmt
 Of Condition = Expr
 Of IfElse = Stmt
 Of Otherwise = Option Stmt
