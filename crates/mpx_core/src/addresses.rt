@@ -1,43 +1,10 @@
 //! The addresses of operands.
-ghost use Rattle.std.specs.Prelude.{◌≡◌, ◌%◌, ◌^◌, IsTrue, slice_index};
-ghost use Rattle.x86_forms.specs.Processor.{address, base_value, index_value, index_register, pointer_address};
-ghost use Rattle.x86_forms.specs.Validity.{mem_ok, base_ok, index_ok, rm_ok};
+ghost use Rattle.std.specs.Prelude.{◌≡◌, IsTrue, slice_index};
+ghost use Rattle.x86_forms.specs.Processor.{index_register, pointer_address};
+ghost use Rattle.x86_forms.specs.Validity.{mem_ok, index_ok, rm_ok};
 ghost use Rattle.mpx_core.specs.Operands.{value_checked};
 
-use x86_forms::{Base, Mem, Reg, Rm};
-
-/// The base register; 0 where there is none.
-pub fn base_of(regs: &[u64; 16], next: u64, m: Mem) -> u64
-    requires { IsTrue (base_ok m.base m.index) }
-    ensures { result ≡ base_value (slice_index regs.now) next m.base }
-{
-    match m.base {
-        Base::None => 0,
-        Base::Reg(r) => regs[r.0 as usize],
-        Base::Rip => next,
-    }
-}
-
-fn scaled(regs: &[u64; 16], index: Option<(Reg, u8)>) -> u64
-    requires { IsTrue (index_ok index) }
-    ensures { result ≡ index_value (slice_index regs.now) index % 2 ^ 64 }
-{
-    match index {
-        None => 0,
-        Some((r, scale)) => regs[r.0 as usize].wrapping_mul(u64::from(scale)),
-    }
-}
-
-/// The address of a memory operand, `next` being the address of the next instruction.
-#[tactic(auto, unfolding(x86_forms::specs::Processor::address))]
-pub fn address_of(regs: &[u64; 16], next: u64, m: Mem) -> u64
-    requires { IsTrue (mem_ok m) }
-    ensures { result ≡ address (slice_index regs.now) next m }
-{
-    base_of(regs, next, m)
-        .wrapping_add(scaled(regs, m.index))
-        .wrapping_add(i64::from(m.disp).cast_unsigned())
-}
+use x86_forms::{Mem, Reg, Rm, address_of, base_of};
 
 /// The address of the pointer in the operand of BNDLDX and BNDSTX: base and displacement alone.
 #[tactic(auto, unfolding(x86_forms::specs::Processor::pointer_address))]
@@ -45,7 +12,7 @@ pub fn pointer_of(regs: &[u64; 16], next: u64, m: Mem) -> u64
     requires { IsTrue (mem_ok m) }
     ensures { result ≡ pointer_address (slice_index regs.now) next m }
 {
-    base_of(regs, next, m).wrapping_add(i64::from(m.disp).cast_unsigned())
+    base_of(regs, next, m.base, m.index).wrapping_add(i64::from(m.disp).cast_unsigned())
 }
 
 /// The value of the pointer: the index register, 0 where there is none.

@@ -6,13 +6,13 @@ ghost use Rattle.x86_forms.specs.Validity.{valid_of, bnd_rm_ok};
 ghost use Rattle.mpx_core.specs.Registers.{with_status};
 ghost use Rattle.mpx_core.specs.Steps.{Beside, seen, Does, is_bounds, status_of, taken};
 
-use crate::addresses::{address_of, base_of, operand_value, pointer_of, pointer_value};
+use crate::addresses::{operand_value, pointer_of, pointer_value};
 use crate::checks::check;
 use crate::moves::{load_bounds, store_bounds};
 use crate::registers::{BndRegs, BndStop, held_word, set_register};
 use crate::tables::{load_from_table, store_to_table};
 use paged_memory::Memory;
-use x86_forms::{Instr, Rm};
+use x86_forms::{Instr, Rm, address_of, base_of};
 
 /// Whether an instruction is of MPX, so that `step` does it.
 pub fn bounds(i: &Instr) -> bool
@@ -77,7 +77,7 @@ pub fn step(
 {
     match *i {
         Instr::Bndmk { b: k, m: at } => {
-            let lb = base_of(regs, next, at);
+            let lb = base_of(regs, next, at.base, at.index);
             let ub = address_of(regs, next, at);
             set_register(b, k, lb, u64::MAX - ub);
             Ok(())
