@@ -1,3 +1,5 @@
 pub mod Agree
 pub mod Loop
 pub mod ImageLaws
+pub mod AsciiNames
+pub mod ObjectLaws

@@ -9,8 +9,9 @@ use crate::fault::Unread;
 use crate::lists::Text;
 use std::alloc::Global;
 
+/// A number of 8 bits.
 #[tactic(auto, unfolding(crate::specs::Fields::number_at))]
-fn u8_at(bytes: &[u8]) -> Result<(u8, &[u8]), Unread>
+pub fn u8_at(bytes: &[u8]) -> Result<(u8, &[u8]), Unread>
     ensures { Gives (λ x. (x.0, x.1.now)) result (number_at w8 bytes.now) }
 {
     match bytes {
@@ -98,7 +99,7 @@ pub fn bytes_of(len: usize, bytes: &[u8]) -> Result<(&[u8], &[u8]), Unread>
 }
 
 /// The bytes as a text, if they are UTF-8.
-fn utf8_of(bytes: &[u8]) -> Option<&str>
+pub fn utf8_of(bytes: &[u8]) -> Option<&str>
     ensures { MatchOption result (is_utf8 bytes.now ≡ false) (λ text. (is_utf8 bytes.now ≡ true) × (text.now ≡ bytes.now)) }
 {
     match str::from_utf8(bytes) {

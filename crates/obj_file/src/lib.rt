@@ -5,16 +5,28 @@ mod fault;
 mod fields;
 mod image;
 mod image_reader;
+#[cfg(test)]
+mod image_tests;
 mod image_writer;
 mod laws;
 mod lists;
-mod put;
+mod names;
+mod object;
+mod object_reader;
 #[cfg(test)]
-mod tests;
+mod object_tests;
+mod object_writer;
+mod parts;
+mod put;
 
 pub use fault::FormFault;
 pub use image::{Files, Image, Segment, Segments, Spot4, Spots4};
 pub use image_reader::read_image;
 pub use image_writer::write_image;
-pub use laws::{images_are_spelled, images_have_one_spelling};
+pub use laws::{
+    images_are_spelled, images_have_one_spelling, objects_are_spelled, objects_have_one_spelling,
+};
 pub use lists::{Bytes, Text};
+pub use object::{Fix, Fixes, Object, Spot3, Spots3, Symbol, Symbols};
+pub use object_reader::read_object;
+pub use object_writer::write_object;

@@ -1,0 +1,174 @@
+//! Objects at the edges of their form.
+
+use crate::fault::FormFault;
+use crate::names::{is_c_name, is_data_sig, is_function_sig};
+use crate::object::{Fix, Spot3};
+use crate::object_reader::read_object;
+use crate::object_writer::write_object;
+use std::process::Abort;
+use std::test::Fail;
+
+/// An instrumented object of the file `a.c`, with 13 bytes of code and 8 of data; a function `f` with `fi()` and data `g` with
+/// `d8`, both at offset 0; a relative fix-up at 1 of the code and an absolute one at 0 of the data; a place at 5 of the code.
+const SMALL: [u8; 120] = [
+    77, 88, 79, 49, 1, 3, 97, 46, 99, 13, 0, 0, 0, 144, 144, 144, 144, 144, 144, 144, 144, 144,
+    144, 144, 144, 144, 8, 0, 0, 0, 0, 0, 0, 0, 0, 0, 0, 0, 2, 0, 0, 0, 1, 0, 0, 0, 0, 1, 102, 4,
+    102, 105, 40, 41, 2, 0, 0, 0, 0, 1, 103, 2, 100, 56, 2, 0, 0, 0, 1, 1, 0, 0, 0, 2, 0, 0, 0, 0,
+    252, 255, 255, 255, 255, 255, 255, 255, 2, 0, 0, 0, 0, 0, 1, 0, 0, 0, 0, 0, 0, 0, 0, 0, 0, 0,
+    1, 0, 0, 0, 5, 0, 0, 0, 1, 0, 0, 0, 2, 0, 0, 0,
+];
+
+/// Where each field of `SMALL` begins.
+const FIELDS: [usize; 36] = [
+    0, 4, 5, 6, 9, 13, 26, 30, 38, 42, 43, 47, 48, 49, 50, 54, 55, 59, 60, 61, 62, 64, 68, 69, 73,
+    74, 78, 86, 87, 91, 92, 96, 104, 108, 112, 116,
+];
+
+/// The offset of what is bad, or `None` for an object.
+fn bad_at(rt: &(impl Abort + AllocGlobal), bytes: &[u8]) -> Option<u64> {
+    match read_object(rt.alloc(), bytes) {
+        Ok(_) => None,
+        Err(FormFault::BadForm { at }) => Some(at),
+        Err(FormFault::OutOfMemory) => panic!(rt; "no memory"),
+    }
+}
+
+#[test]
+fn a_cut_names_its_field(rt: HostRuntime) {
+    assert_eq!(rt; bad_at(&rt, &SMALL), None);
+    for len in 0..120 {
+        let mut field = 0;
+        for start in FIELDS {
+            if start <= len {
+                field = start;
+            }
+        }
+        assert_eq!(rt; bad_at(&rt, &SMALL[..len]), Some(field as u64));
+    }
+    let mut longer = [0; 121];
+    for (to, from) in longer.iter_mut().zip(SMALL) {
+        *to = from;
+    }
+    assert_eq!(rt; bad_at(&rt, &longer), Some(120));
+}
+
+#[test]
+fn each_rule_broken_once(rt: HostRuntime) {
+    let cases: [(usize, u8, Option<u64>); 41] = [
+        (3, 50, Some(0)),
+        (4, 0, Some(104)),
+        (4, 2, Some(4)),
+        (6, 255, Some(6)),
+        (12, 15, Some(9)),
+        (29, 1, Some(26)),
+        (40, 1, Some(38)),
+        (42, 0, None),
+        (42, 3, Some(42)),
+        (43, 13, None),
+        (43, 14, Some(43)),
+        (47, 0, Some(47)),
+        (47, 64, Some(47)),
+        (48, 49, Some(48)),
+        (49, 0, Some(49)),
+        (50, 100, Some(50)),
+        (51, 118, None),
+        (51, 120, Some(50)),
+        (53, 33, Some(50)),
+        (54, 1, Some(62)),
+        (60, 102, Some(60)),
+        (62, 102, Some(62)),
+        (63, 48, None),
+        (63, 47, Some(62)),
+        (66, 17, Some(64)),
+        (68, 0, Some(68)),
+        (68, 3, Some(68)),
+        (69, 9, None),
+        (69, 10, Some(73)),
+        (73, 0, None),
+        (73, 3, Some(73)),
+        (74, 2, Some(74)),
+        (86, 1, Some(87)),
+        (87, 1, Some(91)),
+        (92, 2, Some(92)),
+        (104, 2, Some(120)),
+        (106, 17, Some(104)),
+        (108, 12, None),
+        (108, 13, Some(108)),
+        (112, 0, Some(112)),
+        (116, 0, Some(116)),
+    ];
+    for (index, byte, at) in cases {
+        let mut bytes = SMALL;
+        if index < 120 {
+            bytes[index] = byte;
+        }
+        assert_eq!(rt; bad_at(&rt, &bytes), at);
+    }
+}
+
+#[test]
+fn names_and_signatures(rt: HostRuntime) {
+    let cases: [(&[u8], bool, bool, bool); 20] = [
+        (b"", false, false, false),
+        (b"_", true, false, false),
+        (b"while", true, false, false),
+        (b"x9", true, false, false),
+        (b"9x", false, false, false),
+        (b"a-b", false, false, false),
+        (b"fi()", false, true, false),
+        (b"fv()", false, true, false),
+        (b"fp(pppp)", false, true, false),
+        (b"fp(ppppp)", false, false, false),
+        (b"fL(cChHiI)", false, true, false),
+        (b"fl(iIlLcpp)", false, false, false),
+        (b"fi(v)", false, false, false),
+        (b"f()", false, false, false),
+        (b"fi(", false, false, false),
+        (b"fi()x", false, false, false),
+        (b"d", true, false, false),
+        (b"d0", true, false, true),
+        (b"d01", true, false, false),
+        (b"d16777216", true, false, true),
+    ];
+    for (text, name, function, data) in cases {
+        assert_eq!(rt; is_c_name(text), name);
+        assert_eq!(rt; is_function_sig(text), function);
+        assert_eq!(rt; is_data_sig(text), data);
+    }
+}
+
+#[test]
+fn a_small_object_both_ways(rt: HostRuntime) -> Result<(), Fail> {
+    let alloc = rt.alloc();
+    let Ok(object) = read_object(alloc, &SMALL) else {
+        panic!(rt; "the bytes are an object");
+    };
+    assert!(rt; !object.legacy);
+    assert_eq!(rt; object.file.as_str(), "a.c");
+    assert_eq!(rt; object.code.as_slice().len(), 13);
+    assert_eq!(rt; object.symbols.as_slice().len(), 2);
+    let relative = Fix {
+        part: 1,
+        offset: 1,
+        form: 2,
+        symbol: 0,
+        addend: -4,
+    };
+    let absolute = Fix {
+        part: 2,
+        offset: 0,
+        form: 0,
+        symbol: 1,
+        addend: 0,
+    };
+    assert_eq!(rt; object.fixes.as_slice(), [relative, absolute].as_slice());
+    let spot = Spot3 {
+        offset: 5,
+        line: 1,
+        col: 2,
+    };
+    assert_eq!(rt; object.places.as_slice(), [spot].as_slice());
+    let bytes = write_object(alloc, &object)?;
+    assert_eq!(rt; bytes.as_slice(), SMALL.as_slice());
+    Ok(())
+}
