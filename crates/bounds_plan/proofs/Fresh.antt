@@ -12,13 +12,13 @@ use Rattle.bounds_plan.specs.Code.{labels, labels_ptr, labels_all, labels_effect
 use Rattle.bounds_plan.specs.Laws.{IsOutside}
 
 -- a part of the labels
-part : {k l n : ℕ} (m i : ℕ) → l ≤ m → m + i ≤ l + n → IsOutside k l n → IsOutside k m i
+pub part : {k l n : ℕ} (m i : ℕ) → l ≤ m → m + i ≤ l + n → IsOutside k l n → IsOutside k m i
 part m i p q out = record { is = λ h. omega (arith, q, h, out.is (omega (arith, p, h))) }
 
-own : {k l n : ℕ} (m : ℕ) → l ≤ m → m < l + n → IsOutside k l n → k ≢ m
+pub own : {k l n : ℕ} (m : ℕ) → l ≤ m → m < l + n → IsOutside k l n → k ≢ m
 own m p q out = λ e. omega (arith, q, e, out.is (omega (arith, p, e)))
 
-lacks-append : (k : ℕ) (a b : List FatStep) → LacksLabel k a → LacksLabel k b → LacksLabel k (a ++ b)
+pub lacks-append : (k : ℕ) (a b : List FatStep) → LacksLabel k a → LacksLabel k b → LacksLabel k (a ++ b)
 lacks-append k [] b h g = g
 lacks-append k (Label n ∷ a) b h g = (h.0, lacks-append k a b h.1 g)
 lacks-append k (_ ∷ a) b h g = lacks-append k a b h g

@@ -1,4 +1,11 @@
+mod Effects
+mod Exprs
+mod Flows
 mod Fresh
 mod Parts
+mod Pieces
 mod Runs
+mod Sim
+mod Whole
+mod Words
 mod Worlds

@@ -267,7 +267,7 @@ module _ (R : Relation) (k : Keeps R) where
   -- ---- statements
 
   module _ (F : CopyFact) (copies : (size : ℕ) (scalars : List Scalar) → F size scalars → (to from : Pointer) → is_outside (part 0 from).address size from.rooted.bounds ≡ false → is_outside (part 0 to).address size to.rooted.bounds ≡ false → CopiesAll to from scalars) where
-    kept-effect : (names : Names) → KeptF names.call → (e : Effect) → OfEffect F e → KeptM (effect names e)
+    pub kept-effect : (names : Names) → KeptF names.call → (e : Effect) → OfEffect F e → KeptM (effect names e)
     kept-effect names h Nothing fit = λ s. k.same s.world s.log
     kept-effect names h (ForNumber e) fit = seq_ (number names e) _ (kept-number names h e) (λ s. k.same s.world s.log)
     kept-effect names h (ForPointer e) fit = seq_ (pointer names e) _ (kept-pointer names h e) (λ s. k.same s.world s.log)

@@ -8,14 +8,14 @@ use Rattle.mx_base.specs.Access.{refusal}
 use Rattle.mx_base.specs.World.{World, Access, Traced, Log, read_noted, number_written}
 use Rattle.fat_ir.specs.Laws.{NoneRefused, NotWritten}
 use Rattle.fat_ir.proofs.Worlds.{Begins, begins-same, begins-join, served-longer, none-refused, not-front, not-back, elsewhere}
-use Rattle.bounds_plan.specs.Core.{Scalar, Statement, Skip, Do, Then, If, While, DoWhile, For, Break, Continue, Return, ReturnNumber, ReturnPtr, Effect, Nothing, OfNumber, OfPointer, CopyStruct}
-use Rattle.bounds_plan.specs.State.{Pointer}
+use Rattle.bounds_plan.specs.Core.{NumberExpr, PointerExpr, Scalar, Statement, Skip, Do, Then, If, While, DoWhile, For, Break, Continue, Return, ReturnNumber, ReturnPtr, Effect, Nothing, OfNumber, OfPointer, CopyStruct}
+use Rattle.bounds_plan.specs.State.{Pointer, State, Ended}
 use Rattle.bounds_plan.specs.Accesses.{access}
-use Rattle.bounds_plan.specs.Expressions.{CalleeOfC}
-use Rattle.bounds_plan.specs.Statements.{part}
+use Rattle.bounds_plan.specs.Expressions.{CalleeOfC, Names, number, pointer}
+use Rattle.bounds_plan.specs.Statements.{part, effect, statement}
 use Rattle.bounds_plan.specs.Functions.{Linked, calls}
 use Rattle.bounds_plan.specs.Laws.{LeftByCalls, LeftOutside, NoMoreTurns, OutputGrows, Judged, accesses_of, AllWithin, scalar_size, most_bytes, AllInside, LieInside, CopiesWhole, CopyFact, OfEffect, OfCopies}
-use Rattle.bounds_plan.proofs.Runs.{Keeps, CopiesAll, kept-calls}
+use Rattle.bounds_plan.proofs.Runs.{Keeps, Kept, CopiesAll, kept-number, kept-pointer, kept-effect, kept-statement, kept-calls}
 use Rattle.bounds_plan.proofs.Parts.{part-inside}
 
 abbrev Always : CopyFact
@@ -60,6 +60,22 @@ fewer-copies to from (x ∷ rest) = ((λ e w l. omega arith, λ e w l v. omega a
 
 pub fewer-calls : (program : ℕ → Linked) (outside : CalleeOfC → CalleeOfC) → LeftOutside NoMoreTurns outside → (depth : ℕ) → LeftByCalls NoMoreTurns (calls program outside depth)
 fewer-calls program outside out depth = kept-calls NoMoreTurns fewer Always (λ size scalars fit to from e f. fewer-copies to from scalars) program (λ f. always (program f).fun.body) outside out depth
+
+-- no computation of a function leaves more turns than there were
+abbrev pub Fewer : {A : Type 0} → State → Ended A → Type 0
+Fewer s r = Kept NoMoreTurns fewer s r
+
+pub fewer-number : (names : Names) → LeftByCalls NoMoreTurns names.call → (e : NumberExpr) (s : State) → Fewer s (number names e s)
+fewer-number names h e s = kept-number NoMoreTurns fewer names h e s
+
+pub fewer-pointer : (names : Names) → LeftByCalls NoMoreTurns names.call → (e : PointerExpr) (s : State) → Fewer s (pointer names e s)
+fewer-pointer names h e s = kept-pointer NoMoreTurns fewer names h e s
+
+pub fewer-effect : (names : Names) → LeftByCalls NoMoreTurns names.call → (e : Effect) (s : State) → Fewer s (effect names e s)
+fewer-effect names h e s = kept-effect NoMoreTurns fewer Always (λ size scalars fit to from e f. fewer-copies to from scalars) names h e (always-effect e) s
+
+pub fewer-statement : (names : Names) → LeftByCalls NoMoreTurns names.call → (st : Statement) (s : State) → Fewer s (statement names st s)
+fewer-statement names h st s = kept-statement NoMoreTurns fewer Always (λ size scalars fit to from e f. fewer-copies to from scalars) names h st (always st) s
 
 -- ---- output
 

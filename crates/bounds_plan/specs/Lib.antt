@@ -1,9 +1,10 @@
-pub mod Core
-pub mod State
 pub mod Accesses
-pub mod Expressions
-pub mod Statements
-pub mod Functions
 pub mod Code
+pub mod Core
+pub mod Expressions
+pub mod Follows
+pub mod Functions
 pub mod Laws
+pub mod State
+pub mod Statements
 pub mod Worked

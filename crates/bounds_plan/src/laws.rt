@@ -1,7 +1,11 @@
 //! Laws of the meaning of C. Each function does nothing, and its contract is the law.
 
-ghost use Rattle.std.specs.Prelude.{◌≡◌, ℕ};
-ghost use Rattle.bounds_plan.specs.Expressions.{CalleeOfC};
+ghost use Rattle.std.specs.Prelude.{◌≡◌, ◌≤◌, ℕ, Bool};
+ghost use Rattle.fat_ir.specs.Values.{Values};
+ghost use Rattle.fat_ir.specs.Step.{Symbols};
+ghost use Rattle.bounds_plan.specs.State.{State};
+ghost use Rattle.bounds_plan.specs.Expressions.{CalleeOfC, Names};
+ghost use Rattle.bounds_plan.specs.Follows.{FitsStatement, outcome_of, DoesSame, StandsSame, Holds, body_run_by_steps, body_run_in_c};
 ghost use Rattle.bounds_plan.specs.Functions.{Linked, calls};
 ghost use Rattle.fat_ir.specs.Laws.{LacksLabel};
 ghost use Rattle.bounds_plan.specs.Core.{NumberExpr, PointerExpr, Statement};
@@ -38,4 +42,12 @@ pub fn code_has_its_own_labels()
     ensures numbers { (e : NumberExpr) (d l k : ℕ) → IsOutside k l (labels e) → LacksLabel k (code e d l) }
     ensures pointers { (e : PointerExpr) (d l k : ℕ) → IsOutside k l (labels_ptr e) → LacksLabel k (code_ptr e d l) }
     ensures statements { (s : Statement) (d l lb lc k : ℕ) → IsOutside k l (labels_of s) → LacksLabel k (code_of s d l lb lc) }
+{}
+
+/// The steps of a function's body do what the body does, for every meaning of the functions that it calls, in every world
+/// and at every bound on turns: they come back with the same value and bounds, or stop for the same reason at the same
+/// place, and leave the same world, with its memory and bounds, its turns, and its accesses in order. The private variables
+/// stand among the first values, of which the body names only those of the right sort, and temporaries come after them.
+pub fn compiled_bodies_do_what_they_mean()
+    ensures { (names : Names) (symbols : Symbols) (takes : ℕ → ℕ) → StandsSame names symbols → DoesSame takes names.call symbols.call → LeftByCalls NoMoreTurns names.call → (private : ℕ) (is_bounds : ℕ → Bool) (body : Statement) → FitsStatement private is_bounds takes body → (temp : ℕ) → private ≤ temp → (state : State) (values : Values) → Holds private is_bounds state values → body_run_by_steps symbols private body temp values state.world ≡ outcome_of (body_run_in_c names body state) }
 {}
