@@ -1,28 +1,26 @@
 -- The steps of effects do what the effects do.
-use Rattle.std.proofs.Common.{ℕ, zero, suc, ◌+◌, ◌*◌, ◌%◌, ◌≡◌, ◌≤◌, ◌<◌, refl, sym, ap, ◌∙◌, subst, length, List, [], ◌∷◌, ◌++◌, Option, Some, None, Bool, true, false, cond, ◌==◌, arith, Result, Ok, Err}
-use Rattle.std.specs.Prelude.{◌≢◌}
+use Rattle.std.proofs.Common.{ℕ, ◌+◌, ◌≡◌, ◌≤◌, ◌<◌, refl, sym, ap, ◌∙◌, subst, List, [], ◌∷◌, Option, Some, None, Bool, true, false, arith}
 use Rattle.mx_base.specs.declared.numbers.IntKind.{IntKind}
 use Rattle.mx_base.specs.declared.numbers.IntKind.TheVariants.{U64}
 use Rattle.mx_base.specs.declared.places.Place.{Place as PlaceOf}
 use Rattle.mx_base.specs.Numbers.{size_of, extended}
 use Rattle.mx_base.specs.Bounds.{moved}
 use Rattle.mx_base.specs.Memory.{number_at}
-use Rattle.mx_base.specs.Operators.{Plus}
 use Rattle.mx_base.specs.World.{World, Log, Rooted, pointer_read, pointer_written, read_noted, number_written}
 use Rattle.fat_ir.specs.declared.step.FatStep.{FatStep}
 use Rattle.fat_ir.specs.declared.step.FatStep.TheVariants as s
-use Rattle.fat_ir.specs.Values.{Held, Number, Pair}
-use Rattle.fat_ir.specs.Step.{Symbols, State as T, Next, Reached, On, Over, does, with_value, with_number, with_pair, with_world, number_loaded, number_stored, pointer_came, pointer_went}
+use Rattle.fat_ir.specs.Values.{Number, Pair}
+use Rattle.fat_ir.specs.Step.{Symbols, State as T, Next, Reached, On, Over, with_number, with_world, number_loaded, number_stored, pointer_came, pointer_went}
 use Rattle.fat_ir.specs.Run.{pass, and_then}
 use Rattle.bounds_plan.specs.Core.{PointerExpr, Scalar, Effect, Nothing, OfNumber as ForNumber, OfPointer as ForPointer, CopyStruct}
-use Rattle.bounds_plan.specs.State.{Pointer, State, Ended, Done, Stopped, M, bind, ◌>>=◌, ◌>>◌, pure}
+use Rattle.bounds_plan.specs.State.{Pointer, State, Ended, Done, Stopped, M, bind, ◌>>=◌, ◌>>◌}
 use Rattle.bounds_plan.specs.Accesses.{access, judge, allow, read_number as source_read, write_number as source_write, read_pointer, write_pointer}
-use Rattle.bounds_plan.specs.Expressions.{Names, number, pointer}
+use Rattle.bounds_plan.specs.Expressions.{Names}
 use Rattle.bounds_plan.specs.Statements.{part, copy_scalar, copy_scalars, effect}
-use Rattle.bounds_plan.specs.Code.{plus, offset_by, copied, copied_all, labels, labels_ptr, code, code_ptr, code_effect}
+use Rattle.bounds_plan.specs.Code.{plus, copied, copied_all, labels_ptr, code_ptr, code_effect}
 use Rattle.bounds_plan.specs.Follows.{FitsEffect, DoesSame}
-use Rattle.bounds_plan.proofs.Words.{plus-word, word-word}
-use Rattle.bounds_plan.proofs.Sim.{here, there, read_number, read_bounds, Agree, Sim, beside, NumberIn, PointerIn, agree_on, and_on, on_step, judge_follows, allow_follows}
+use Rattle.bounds_plan.proofs.Words.{word-word}
+use Rattle.bounds_plan.proofs.Sim.{here, read_number, read_bounds, Agree, Sim, beside, NumberIn, PointerIn, agree_on, and_on, on_step, judge_follows, allow_follows}
 use Rattle.bounds_plan.proofs.Exprs.{runs, runs_ptr}
 use Rattle.bounds_plan.proofs.Pieces.{made_of, weaken, under, over, offset_follows, finish_came, finish_went, Same, of_same}
 

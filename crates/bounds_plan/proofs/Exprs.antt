@@ -1,41 +1,25 @@
 -- The steps of expressions do what the expressions do.
-use Rattle.std.proofs.Common.{ℕ, zero, suc, ◌+◌, ◌*◌, ◌%◌, ◌≡◌, ◌≤◌, ◌<◌, refl, sym, ap, ◌∙◌, subst, length, List, [], ◌∷◌, ◌++◌, Option, Some, None, Bool, true, false, cond, ◌==◌, arith, Result, Ok, Err}
+use Rattle.std.proofs.Common.{ℕ, suc, ◌+◌, ◌*◌, ◌%◌, ◌≡◌, ◌≤◌, ◌<◌, refl, sym, ap, ◌∙◌, subst, length, [], ◌∷◌, Some, None, Bool, true, false, cond, arith}
 use Rattle.std.specs.Prelude.{◌≢◌}
-use Rattle.mx_base.specs.declared.limits.Bounds.{Bounds as BoundsPair}
-use Rattle.mx_base.specs.declared.numbers.IntKind.{IntKind}
-use Rattle.mx_base.specs.declared.places.Place.{Place as PlaceOf}
 use Rattle.mx_base.specs.Numbers.{size_of, extended}
 use Rattle.mx_base.specs.Memory.{number_at}
 use Rattle.mx_base.specs.declared.numbers.IntKind.TheVariants.{U64}
-use Rattle.mx_base.specs.Operators.{Arithmetic, Times, Plus, Minus, Comparison, arithmetic_at, comparison_at, word_arithmetic, word_compares}
+use Rattle.mx_base.specs.Operators.{word_arithmetic, word_compares}
 use Rattle.mx_base.specs.Bounds.{addresses, full_bounds, met, moved, bounds_at}
-use Rattle.mx_base.specs.BoundsStore.{granule, Kept}
-use Rattle.mx_base.specs.Access.{Refusal, refusal}
-use Rattle.mx_base.specs.Services.{Served, Answers, Exits, Overflows, Refused}
-use Rattle.mx_base.specs.StopOfC.{Divide}
-use Rattle.mx_base.specs.World.{NullBlock, World, Log, Rooted, Root, MadeAt, FullBy, NothingKept, NullConstant, FunctionAddress, InitBuiltin, FromInteger as WasInteger, pointer_read, pointer_written, read_noted, number_written}
-use Rattle.fat_ir.specs.declared.step.FatStep.{FatStep}
+use Rattle.mx_base.specs.World.{MadeAt, FullBy, NullConstant, InitBuiltin, FromInteger as WasInteger, pointer_read, read_noted}
 use Rattle.fat_ir.specs.declared.step.FatStep.TheVariants as s
-use Rattle.fat_ir.specs.Values.{Held, Nothing, Number, Pair, Values, Value, with_held}
-use Rattle.fat_ir.specs.Calls.{Outcome, Comes as ComesBack, Stops as StopsAt}
-use Rattle.fat_ir.specs.Step.{Located, ObjectAt, FunctionAt, pointer_into, Symbols, State as T, Going, Next, To, Reached, On, Over, number_then, bounds_then, held_then, with_value, with_number, with_pair, with_pointer, with_world, arguments_then, does, computed, operated, compared, answered, came_back, served_in_c, pointer_came, pointer_went, number_loaded, number_stored}
+use Rattle.fat_ir.specs.Values.{Number, Pair}
+use Rattle.fat_ir.specs.Step.{Located, pointer_into, Symbols, Next, Reached, On, with_number, with_pair, with_pointer, with_world, operated, compared, came_back, served_in_c, pointer_came, number_loaded}
 use Rattle.fat_ir.specs.Run.{pass, and_then}
-use Rattle.fat_ir.specs.Laws.{LacksLabel}
-use Rattle.fat_ir.proofs.Lists.{pass-append, pass-over, pass-here}
-use Rattle.std.proofs.lemmas.Bool.Decides.{nat_tests}
-use Rattle.bounds_plan.specs.Laws.{IsOutside}
 use Rattle.bounds_plan.proofs.Fresh.{fresh, fresh_ptr}
 use Rattle.bounds_plan.specs.Core.{NumberExpr, Word, Variable, Assign, Operate, Compare, Convert, AsNumber, Load, Store, Update, UpdateAt, And, Or, Choose, Call, Serve, Ask, PointerExpr, Null, FromInteger, Function, Object, InFrame, VariablePtr, AssignPtr, Member, Element, LoadPtr, StorePtr, Advance, AdvanceAt, ChoosePtr, CallPtr, Alloc, SetBounds, NarrowBounds, CopyBounds, InitBounds, BoundOf, Arguments, NoMore, WithNumber, WithPointer}
-use Rattle.bounds_plan.specs.State.{Pointer, Passed, OfNumber, OfPointer, State, Ended, Done, Stopped, M, bind, ◌>>=◌, ◌>>◌, pure, stored, set_variable, set_variable_ptr, with_cause, with_made, place_of}
-use Rattle.bounds_plan.specs.Accesses.{load, store, load_ptr, store_ptr, read_number as source_read, write_number as source_write, read_pointer, write_pointer, allow, access, came, went, with_root, root_for}
-use Rattle.bounds_plan.specs.Expressions.{Names, Answer, Comes, Stops, CalleeOfC, number, pointer, arguments, operate, divided, object, choose, truth, either, serving, served_with, block, calling, answered_with, number_passed, pointer_passed, step, stepped, with_address, member}
-use Rattle.bounds_plan.specs.Code.{full, operator, comparison, plus, plus_or_minus, before_or_after, arguments_at, ruled, offset_by, scaled, labels, labels_ptr, labels_all, code, code_ptr, codes}
-use Rattle.bounds_plan.specs.Follows.{count, Fits, FitsPtr, FitsAll, value_of, values_of, outcome_of, DoesSame}
-use Rattle.narrowing.specs.declared.member.Rule.{Rule}
-use Rattle.narrowing.specs.declared.member.Rule.TheVariants.{Keep, Meet as MeetRule}
-use Rattle.narrowing.specs.Member.{bounds_by}
-use Rattle.bounds_plan.proofs.Words.{operator-back, comparison-back, plus-word, word-word, times-word, less-word, more-word}
-use Rattle.bounds_plan.proofs.Sim.{here, there, read_number, read_bounds, read_held_number, read_held_pair, first_step, first_stops, home, Agree, Stay, Sim, beside, NumberIn, PointerIn, agree_on, stay_on, RunsTo, and_on, on_step, judge_follows, allow_follows}
+use Rattle.bounds_plan.specs.State.{Pointer, OfNumber, OfPointer, Done, M, bind, ◌>>=◌, ◌>>◌, pure, set_variable, with_cause, with_made, place_of}
+use Rattle.bounds_plan.specs.Accesses.{load_ptr, store_ptr, read_number as source_read, read_pointer, allow}
+use Rattle.bounds_plan.specs.Expressions.{Names, number, pointer, arguments, operate, object, either, block, calling, number_passed, pointer_passed, step}
+use Rattle.bounds_plan.specs.Code.{operator, comparison, plus_or_minus, before_or_after, arguments_at, labels, labels_ptr, code, code_ptr, codes}
+use Rattle.bounds_plan.specs.Follows.{Fits, FitsPtr, FitsAll, DoesSame}
+use Rattle.bounds_plan.proofs.Words.{operator-back, comparison-back}
+use Rattle.bounds_plan.proofs.Sim.{here, there, read_number, read_bounds, read_held_number, read_held_pair, beside, NumberIn, PointerIn, agree_on, stay_on, RunsTo, and_on, on_step, judge_follows, allow_follows}
 use Rattle.bounds_plan.proofs.Pieces.{SimN, SimP, finish_number, kept_number, kept_pair, stay_join, home_number, home_pair, finish_pair, finish_pointer, finish_came, Same, stores_number, stores_pointer, same_stay, of_same, full_at_0, finish_front, finish_full, finish_object, weaken, chooses, made_of, finish_operated, under, over, finish_set, operate_follows, both, one_of, finish_served, serves, finish_block, finish_update, scale_follows, finish_member, finish_element, update_at, advance_at, advance, finish_set_ptr, ArgumentsIn, read_none, read_one, read_two, reads, came_number, came_pointer}
 
 module _ (private : ℕ) (sorts : ℕ → Bool) where

@@ -1,33 +1,27 @@
 -- The steps of statements do what the statements do.
-use Rattle.std.proofs.Common.{ℕ, zero, suc, ◌+◌, ◌*◌, ◌%◌, ◌≡◌, ◌≤◌, ◌<◌, refl, sym, ap, ◌∙◌, subst, length, List, [], ◌∷◌, ◌++◌, append_assoc, Option, Some, None, Bool, true, false, cond, ◌==◌, nat_lt, arith}
+use Rattle.std.proofs.Common.{ℕ, zero, suc, ◌+◌, ◌≡◌, ◌≤◌, ◌<◌, refl, sym, ap, ◌∙◌, subst, List, [], ◌∷◌, ◌++◌, append_assoc, Some, None, Bool, true, cond, nat_lt, arith}
 use Rattle.std.specs.Prelude.{◌≢◌}
 use Rattle.std.proofs.lemmas.Bool.Decides.{nat_tests}
-use Rattle.mx_base.specs.declared.numbers.IntKind.{IntKind}
-use Rattle.mx_base.specs.declared.numbers.IntKind.TheVariants.{U64}
-use Rattle.mx_base.specs.Numbers.{size_of, extended}
-use Rattle.mx_base.specs.Bounds.{full_bounds, moved}
-use Rattle.mx_base.specs.Memory.{number_at}
-use Rattle.mx_base.specs.Operators.{Plus}
-use Rattle.mx_base.specs.StopOfC.{StopOfC, OutOfTurns}
-use Rattle.mx_base.specs.World.{World, Log, Rooted, pointer_read, pointer_written, read_noted, number_written}
+use Rattle.mx_base.specs.StopOfC.{OutOfTurns}
+use Rattle.mx_base.specs.World.{World, Log, Rooted}
 use Rattle.fat_ir.specs.declared.step.FatStep.{FatStep}
 use Rattle.fat_ir.specs.declared.step.FatStep.TheVariants as s
-use Rattle.fat_ir.specs.Values.{Held, Number, Pair, Nothing as NoHeld, Values, private_alone}
+use Rattle.fat_ir.specs.Values.{Number, Pair, Nothing as NoHeld}
 use Rattle.fat_ir.specs.Calls.{Outcome, Comes as ComesBack, Stops as StopsAt, with_turns, turn_from as fat_turn_from}
-use Rattle.fat_ir.specs.Step.{Symbols, State as T, Going, Next, To, Reached, On, Over, does, with_number, with_world, jumps_unless_0, number_loaded, number_stored}
+use Rattle.fat_ir.specs.Step.{Symbols, State as T, Going, Next, To, Reached, On, jumps_unless_0}
 use Rattle.fat_ir.specs.Run.{pass, and_then, followed, run_to, back, no_value}
 use Rattle.fat_ir.specs.Laws.{LacksLabel}
 use Rattle.fat_ir.proofs.Lists.{pass-append, pass-over, pass-here}
-use Rattle.bounds_plan.specs.Core.{NumberExpr, PointerExpr, Scalar, Effect, Nothing, OfNumber as ForNumber, OfPointer as ForPointer, CopyStruct, Statement, Skip, Do, Then, If, While, DoWhile, For, Break, Continue, Return, ReturnNumber, ReturnPtr}
-use Rattle.bounds_plan.specs.State.{Pointer, Passed, OfNumber, OfPointer, State, Ended, Done, Stopped, M, bind, ◌>>=◌, ◌>>◌, pure, stop}
+use Rattle.bounds_plan.specs.Core.{NumberExpr, PointerExpr, Effect, Statement, Skip, Do, Then, If, While, DoWhile, For, Break, Continue, Return, ReturnNumber, ReturnPtr}
+use Rattle.bounds_plan.specs.State.{Pointer, OfNumber, OfPointer, State, Ended, Done, Stopped, M, bind, ◌>>=◌, ◌>>◌, pure, stop}
 use Rattle.bounds_plan.specs.Expressions.{Names, number, pointer, choose}
 use Rattle.bounds_plan.specs.Statements.{effect, Flow, Normal, Broke, Continued, Returned, Left, turn_from, turn, after_body, round, loop, round_once, loop_once, after_first, statement}
-use Rattle.bounds_plan.specs.Code.{labels, labels_ptr, labels_effect, labels_of, code, code_ptr, code_effect, code_of}
+use Rattle.bounds_plan.specs.Code.{labels, labels_effect, labels_of, code, code_ptr, code_effect, code_of}
 use Rattle.bounds_plan.specs.Laws.{IsOutside, LeftByCalls, NoMoreTurns}
 use Rattle.bounds_plan.specs.Follows.{Fits, FitsPtr, FitsEffect, FitsStatement, value_of, DoesSame}
-use Rattle.bounds_plan.proofs.Fresh.{part, own, lacks-append, fresh, fresh_ptr, fresh_effect, fresh_statement}
+use Rattle.bounds_plan.proofs.Fresh.{part, own, lacks-append, fresh, fresh_effect, fresh_statement}
 use Rattle.bounds_plan.proofs.Worlds.{Fewer, fewer-number, fewer-pointer, fewer-effect, fewer-statement}
-use Rattle.bounds_plan.proofs.Sim.{read_number, read_bounds, home, Agree, Sim, beside, NumberIn, PointerIn}
+use Rattle.bounds_plan.proofs.Sim.{read_number, read_bounds, Agree, Sim, beside, NumberIn, PointerIn}
 use Rattle.bounds_plan.proofs.Exprs.{runs, runs_ptr}
 use Rattle.bounds_plan.proofs.Effects.{Anything, effect_runs}
 

@@ -1,13 +1,13 @@
 -- How the steps of an expression follow its meaning.
-use Rattle.std.proofs.Common.{ℕ, zero, suc, ◌+◌, ◌≡◌, ◌≤◌, ◌<◌, refl, sym, ap, ◌∙◌, subst, List, [], ◌∷◌, ◌++◌, Option, Some, None, Bool, true, false, cond, ◌==◌, nat_lt, arith}
+use Rattle.std.proofs.Common.{ℕ, ◌+◌, ◌≡◌, ◌≤◌, ◌<◌, sym, ap, ◌∙◌, subst, List, ◌∷◌, ◌++◌, Option, Some, None, Bool, true, false, cond, ◌==◌, arith}
 use Rattle.std.specs.Prelude.{◌≢◌}
 use Rattle.std.proofs.lemmas.Bool.Decides.{nat_tests}
 use Rattle.mx_base.specs.declared.limits.Bounds.{Bounds as BoundsPair}
 use Rattle.mx_base.specs.World.{World, Log, Rooted}
 use Rattle.fat_ir.specs.declared.step.FatStep.{FatStep}
-use Rattle.fat_ir.specs.Values.{Held, Nothing, Number, Pair, Values, with_held}
+use Rattle.fat_ir.specs.Values.{Held, Number, Pair, Values, with_held}
 use Rattle.fat_ir.specs.Calls.{Outcome, Stops}
-use Rattle.fat_ir.specs.Step.{Symbols, State as T, Going, Next, To, Reached, On, Over, number_then, bounds_then, held_then, with_value, judged, stop_by, unless_refused, does}
+use Rattle.fat_ir.specs.Step.{Symbols, State as T, Next, Reached, On, Over, number_then, bounds_then, held_then, with_value, judged, stop_by, unless_refused, does}
 use Rattle.fat_ir.specs.declared.step.FatStep.TheVariants.{Judge}
 use Rattle.mx_base.specs.declared.places.Place.{Place as PlaceOf}
 use Rattle.mx_base.specs.StopOfC.{Bounds, AtPlace}
@@ -15,9 +15,9 @@ use Rattle.mx_base.specs.Bounds.{leaving_value}
 use Rattle.mx_base.specs.Access.{Refusal, refusal}
 use Rattle.std.specs.Option.{option_map}
 use Rattle.bounds_plan.specs.Accesses.{leaves, judge, allow}
-use Rattle.fat_ir.specs.Run.{pass, and_then, moves}
+use Rattle.fat_ir.specs.Run.{pass, and_then}
 use Rattle.fat_ir.proofs.Lists.{pass-append}
-use Rattle.bounds_plan.specs.State.{Pointer, State, Ended, Done, Stopped, M, bind, ◌>>=◌, ◌>>◌, pure, unless}
+use Rattle.bounds_plan.specs.State.{Pointer, State, Ended, Done, Stopped, M, bind, ◌>>◌, unless}
 
 -- ---- values
 

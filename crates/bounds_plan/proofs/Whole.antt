@@ -1,23 +1,22 @@
 -- The steps of a body do what the body does.
-use Rattle.std.proofs.Common.{ℕ, zero, suc, ◌+◌, ◌≡◌, ◌≤◌, ◌<◌, refl, sym, ap, ◌∙◌, subst, List, [], ◌∷◌, ◌++◌, Bool, arith}
-use Rattle.std.specs.Prelude.{◌≢◌}
-use Rattle.mx_base.specs.World.{World, Log, Rooted}
+use Rattle.std.proofs.Common.{ℕ, ◌≡◌, ◌≤◌, refl, ap, ◌∙◌, List, [], ◌∷◌, ◌++◌, Bool, arith}
+use Rattle.mx_base.specs.World.{World}
 use Rattle.fat_ir.specs.declared.step.FatStep.{FatStep}
 use Rattle.fat_ir.specs.declared.step.FatStep.TheVariants as s
-use Rattle.fat_ir.specs.Calls.{Outcome, Comes as ComesBack, Stops as StopsAt}
+use Rattle.fat_ir.specs.Calls.{Outcome, Comes as ComesBack}
 use Rattle.fat_ir.specs.Values.{Values}
-use Rattle.fat_ir.specs.Step.{Symbols, State as T, Going, Next, To}
-use Rattle.fat_ir.specs.Run.{pass, followed, run_to, steps_run, no_value}
+use Rattle.fat_ir.specs.Step.{Symbols, State as T, Next}
+use Rattle.fat_ir.specs.Run.{followed, run_to, steps_run, no_value}
 use Rattle.fat_ir.proofs.Lists.{pass-here}
 use Rattle.bounds_plan.specs.Core.{Statement}
-use Rattle.bounds_plan.specs.State.{State, Ended, Done, Stopped, M, bind, ◌>>=◌}
+use Rattle.bounds_plan.specs.State.{State, Ended, Done, Stopped, bind, ◌>>=◌}
 use Rattle.bounds_plan.specs.Expressions.{Names}
 use Rattle.bounds_plan.specs.Statements.{Flow, Normal, Broke, Continued, Returned, Left, statement}
 use Rattle.bounds_plan.specs.Functions.{result_of, answer_of}
-use Rattle.bounds_plan.specs.Code.{labels_of, code_of}
-use Rattle.bounds_plan.specs.Laws.{IsOutside, LeftByCalls, NoMoreTurns}
+use Rattle.bounds_plan.specs.Code.{code_of}
+use Rattle.bounds_plan.specs.Laws.{LeftByCalls, NoMoreTurns}
 use Rattle.bounds_plan.specs.Follows.{FitsStatement, outcome_of, DoesSame, Holds, StandsSame, body_run_by_steps, body_run_in_c}
-use Rattle.bounds_plan.proofs.Flows.{Clear, Reach, Goes, statement_goes}
+use Rattle.bounds_plan.proofs.Flows.{Goes, statement_goes}
 
 body_ends : (private : ℕ) (sorts : ℕ → Bool) (symbols : Symbols) (names : Names) (takes : ℕ → ℕ) (same_place : (x : ℕ) → symbols.located x ≡ names.located x) (same : DoesSame takes names.call symbols.call) (few : LeftByCalls NoMoreTurns names.call) (d : ℕ) (above : private ≤ d) (body : List FatStep) (res : Ended Flow) (r : Outcome)
     → Goes private sorts symbols names takes same_place same few d above body (s.Label 0 ∷ []) 0 0 res r → r ≡ outcome_of (answer_of (bind res result_of))

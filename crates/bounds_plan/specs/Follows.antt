@@ -1,5 +1,5 @@
 -- What a tree must be so that its fat steps do what it means, and what the values and outcomes of C are beside those of steps.
-use Rattle.std.specs.Prelude.{ℕ, zero, suc, ◌+◌, ◌<◌, ◌≡◌, Bool, true, false, if◌then◌else◌, List, [], ◌∷◌, ◌++◌, length}
+use Rattle.std.specs.Prelude.{ℕ, suc, ◌+◌, ◌<◌, ◌≡◌, Bool, true, false, if◌then◌else◌, List, [], ◌∷◌, ◌++◌, length}
 use Rattle.mx_base.specs.Bounds.{full_bounds}
 use Rattle.mx_base.specs.World.{World, Log}
 use Rattle.fat_ir.specs.Values.{Held, Number, Pair, Values, Value}
