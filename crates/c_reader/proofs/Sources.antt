@@ -9,11 +9,12 @@ use Rattle.c_reader.specs.Rules.{N, Of, Rx, eps, no_else, tok, seq, alt, map, ne
 use Rattle.c_reader.specs.Grammar.{rule}
 use Rattle.c_reader.specs.Reading.{Out, unfit, too_deep, Allow, and_then, starts, take_tok, parse_with, size, parse, limit}
 use Rattle.c_reader.specs.Program.{IsSource, Begins, Fails, FirstBad, place_at}
-use Rattle.c_reader.specs.SourceLaws.{OneTree, SourceOrBad, BadIsNone, OneBad, OneDeep}
+use Rattle.c_reader.specs.SourceLaws.{SourcesHaveLevels, OneTree, SourceOrBad, BadIsNone, OneBad, OneDeep}
 use Rattle.c_reader.proofs.Good.{Calls}
 use Rattle.c_reader.proofs.Steps.{Below, calls_mono, calls_of, parse_shrinks, parse_step}
 use Rattle.c_reader.proofs.Whole.{read_all, read_only, not_left, not_stuck, left_over, stuck_at, one_more}
 use Rattle.c_reader.proofs.Deepest.{too_deep_only}
+use Rattle.c_reader.proofs.Levels.{forget, levelled}
 
 -- ---- with no limit nothing is too deep
 
@@ -127,3 +128,11 @@ stop_place t u a b o e f = first_place t u a b (sym (ap stop e) ∙ ap stop f)
 
 pub one_deep : OneDeep
 one_deep ts p q x y = x.here ∙ stop_place x.token y.token x.behind y.behind (parse limit n.Source 0 ts) (too_deep_only ts p x) (too_deep_only ts q y) ∙ sym y.here
+
+pub sources_have_levels : SourcesHaveLevels
+sources_have_levels ts items = (
+  λ x.
+      let l = levelled n.Source 0 ts items [] x in
+      (l.1, record { after = l.0; nests = l.2 }),
+  λ x. forget (call n.Source) 0 ts items [] x.1.after x.0 x.1.nests,
+)

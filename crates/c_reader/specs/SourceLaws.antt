@@ -1,9 +1,9 @@
 -- Laws of sources: each has one tree, and what is none has one first token that does not fit.
-use Rattle.std.specs.Prelude.{◌≡◌, ◌⊎◌, List}
+use Rattle.std.specs.Prelude.{List, ℕ, ◌↔◌, ◌≡◌, ◌⊎◌}
 use Rattle.mx_base.specs.declared.places.Place.{Place}
 use Rattle.c_tree.specs.declared.tree.Item.{Item}
 use Rattle.c_reader.specs.Lexemes.{Lexeme}
-use Rattle.c_reader.specs.Nesting.{TooDeep}
+use Rattle.c_reader.specs.Nesting.{HasLevels, TooDeep}
 use Rattle.c_reader.specs.Program.{IsSource, FirstBad}
 
 abbrev pub OneTree : Type 0
@@ -19,6 +19,10 @@ BadIsNone = (ts : List Lexeme) (end place : Place) (items : List Item) → First
 
 abbrev pub OneBad : Type 0
 OneBad = (ts : List Lexeme) (end p q : Place) → FirstBad ts end p → FirstBad ts end q → p ≡ q
+
+-- a source is what has levels of nesting: each token of it has one
+abbrev pub SourcesHaveLevels : Type 0
+SourcesHaveLevels = (ts : List Lexeme) (items : List Item) → IsSource ts items ↔ ((levels : List ℕ) × HasLevels ts items levels)
 
 abbrev pub OneDeep : Type 0
 OneDeep = (ts : List Lexeme) (p q : Place) → TooDeep ts p → TooDeep ts q → p ≡ q

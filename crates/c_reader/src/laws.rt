@@ -1,7 +1,7 @@
 //! Laws of the grammar, which hold of its definitions alone. The functions do nothing: their contracts are the laws.
 
 ghost use Rattle.c_reader.specs.FormedLaw.{ProgramsAreFormed};
-ghost use Rattle.c_reader.specs.SourceLaws.{OneTree, SourceOrBad, BadIsNone, OneBad, OneDeep};
+ghost use Rattle.c_reader.specs.SourceLaws.{SourcesHaveLevels, OneTree, SourceOrBad, BadIsNone, OneBad, OneDeep};
 ghost use Rattle.c_reader.specs.WrittenLaws.{AssignmentAsWritten, BaseAsWritten, BinaryAsWritten, ConditionalAsWritten, ExternalAsWritten, ParametersAsWritten, UnaryAsWritten};
 
 /// Tokens are a source with one tree at most.
@@ -22,6 +22,11 @@ pub fn what_does_not_fit_is_no_source()
 /// One token at most is the first that does not fit.
 pub fn one_token_is_the_first_that_does_not_fit()
     ensures { OneBad }
+{}
+
+/// A source is what has levels of nesting.
+pub fn sources_have_levels()
+    ensures { SourcesHaveLevels }
 {}
 
 /// One token at most is the first that opens one nesting too many.
