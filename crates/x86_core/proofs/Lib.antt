@@ -4,3 +4,4 @@ mod EarlySteps
 pub mod Stepping
 pub mod Spreading
 pub mod Rows
+pub mod Frames

@@ -1,13 +1,13 @@
 -- What a memory stands for, as a memory of the instruction table: bytes by address, and the frames of the pages that were written.
-use Rattle.std.specs.Prelude.{ℕ, nat_lt, if◌then◌else◌, List, Result, Ok, Err}
+use Rattle.std.specs.Prelude.{◌≡◌, ℕ, nat_lt, if◌then◌else◌, List, Result, Ok, Err, ⊤}
 use Rattle.mx_base.specs.Bounds.{full_bounds}
 use Rattle.mx_base.specs.Memory.{Bytes}
 use Rattle.paged_memory.specs.declared.stops.MemStop.{MemStop}
-use Rattle.paged_memory.specs.declared.stops.MemStop.TheVariants.{NoFrames}
+use Rattle.paged_memory.specs.declared.stops.MemStop.TheVariants.{Unmapped, NoFrames}
 use Rattle.paged_memory.specs.Answers.{load_answer, store_answer}
 use Rattle.paged_memory.specs.Touched.{touched_by, frames_for}
 use Rattle.paged_memory.specs.Paged.{Paged, bytes_of, touched_of}
-use Rattle.x86_forms.specs.Requests.{Store}
+use Rattle.x86_forms.specs.Requests.{Store, Outcome, Done, Failed, Refused}
 
 -- the byte at each address, the touched pages, and how many frames there are
 pub record Framed : Type 0 where
@@ -36,3 +36,27 @@ framed = record {
   keep = λ x at value b. Ok x;
   status = λ stop before. before;
 }
+
+-- ---- bytes alone
+
+-- a memory of bytes that never lacks frames
+abbrev pub unframed : Store Bytes MemStop
+unframed = record {
+  read = λ bytes at size. load_answer size bytes at;
+  write = λ bytes at size value. store_answer size bytes at value;
+  load = λ bytes at value. Ok (full_bounds, bytes);
+  keep = λ bytes at value b. Ok bytes;
+  status = λ stop before. before;
+}
+
+abbrev pub IsDone : Outcome Bytes MemStop → Type 0
+IsDone (Done after bytes) = ⊤
+IsDone (Failed fault left bytes) = ⊥
+IsDone (Refused stop left bytes) = ⊥
+
+-- an instruction ended over bytes as it did over them and frames; where frames were too few, it is done over bytes
+abbrev pub SameOverBytes : Outcome Framed MemStop → Outcome Bytes MemStop → Type 0
+SameOverBytes (Done after x) end = end ≡ Done after x.bytes
+SameOverBytes (Failed fault left x) end = end ≡ Failed fault left x.bytes
+SameOverBytes (Refused (Unmapped a) left x) end = end ≡ Refused (Unmapped a) left x.bytes
+SameOverBytes (Refused (NoFrames in_use capacity) left x) end = IsDone end
