@@ -1,11 +1,9 @@
 -- A program of requests over bytes and frames, and over the bytes alone.
-use Rattle.std.proofs.Common.{◌≡◌, ℕ, Bool, true, false, nat_lt, List, refl}
-use Rattle.std.specs.Prelude.{Option, Some, None, Result, Ok, Err, if◌then◌else◌}
+use Rattle.std.proofs.Common.{ℕ, Bool, true, false, nat_lt, List, refl}
+use Rattle.std.specs.Prelude.{Option, Some, None, Ok, Err, if◌then◌else◌}
 use Rattle.mx_base.specs.Bounds.{full_bounds}
-use Rattle.mx_base.specs.declared.limits.Bounds.{Bounds}
 use Rattle.mx_base.specs.Regions.{is_readable, is_writable}
 use Rattle.mx_base.specs.Memory.{Bytes, number_at, with_number, first_refused}
-use Rattle.paged_memory.specs.declared.stops.MemStop.{MemStop}
 use Rattle.paged_memory.specs.declared.stops.MemStop.TheVariants.{NoFrames}
 use Rattle.paged_memory.specs.Answers.{unless_refused, load_answer, store_answer}
 use Rattle.paged_memory.specs.Touched.{touched_by, frames_for}
