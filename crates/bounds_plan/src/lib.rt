@@ -1,4 +1,4 @@
-//! What C means: the core tree of a function, and what it does.
+//! What C means: the core tree of a function, what it does, and the fat steps that it is compiled to.
 #![tactic(auto)]
 
 mod laws;
