@@ -1,4 +1,6 @@
+mod Calls
 mod Effects
+mod Entry
 mod Exprs
 mod Flows
 mod Fresh

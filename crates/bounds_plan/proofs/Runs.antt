@@ -349,7 +349,7 @@ module _ (R : Relation) (k : Keeps R) where
     kept-arrive (Framed offset (Some kind)) v = kept-frame {B = Unit {0}} offset (size_of kind) (λ p. allow true (size_of kind) p >> write_number kind p (number_passed v)) (λ p in_bounds. kept-allow true (size_of kind) p (write_number kind p (number_passed v)) (λ open_bytes. kept-write_number kind p (number_passed v) (λ w l n. k.wrote w l (size_of kind) p n open_bytes in_bounds))) (some-size kind)
     kept-arrive (Framed offset None) v = kept-frame {B = Unit {0}} offset 8 (λ p. pointer_passed v >>= (λ q. allow true 8 p >> write_pointer p q)) (λ p in_bounds. seq (pointer_passed v) (λ q. allow true 8 p >> write_pointer p q) (kept-pointer_passed v) (λ q. kept-allow true 8 p (write_pointer p q) (λ open_bytes. kept-write_pointer p q (λ w l n. k.wrote w l 8 p n open_bytes in_bounds)))) (omega arith)
 
-    kept-arrive_all : (ps : List Parameter) (args : List Passed) → KeptM (arrive_all ps args)
+    pub kept-arrive_all : (ps : List Parameter) (args : List Passed) → KeptM (arrive_all ps args)
     kept-arrive_all [] args = λ s. k.same s.world s.log
     kept-arrive_all (p ∷ ps) [] = λ s. k.same s.world s.log
     kept-arrive_all (p ∷ ps) (v ∷ args) = seq_ (arrive p v) _ (kept-arrive p v) (kept-arrive_all ps args)

@@ -18,7 +18,7 @@ use Rattle.bounds_plan.specs.Laws.{LeftByCalls, NoMoreTurns}
 use Rattle.bounds_plan.specs.Follows.{FitsStatement, outcome_of, DoesSame, Holds, StandsSame, body_run_by_steps, body_run_in_c}
 use Rattle.bounds_plan.proofs.Flows.{Goes, statement_goes}
 
-body_ends : (private : ℕ) (sorts : ℕ → Bool) (symbols : Symbols) (names : Names) (takes : ℕ → ℕ) (same_place : (x : ℕ) → symbols.located x ≡ names.located x) (same : DoesSame takes names.call symbols.call) (few : LeftByCalls NoMoreTurns names.call) (d : ℕ) (above : private ≤ d) (body : List FatStep) (res : Ended Flow) (r : Outcome)
+pub body_ends : (private : ℕ) (sorts : ℕ → Bool) (symbols : Symbols) (names : Names) (takes : ℕ → ℕ) (same_place : (x : ℕ) → symbols.located x ≡ names.located x) (same : DoesSame takes names.call symbols.call) (few : LeftByCalls NoMoreTurns names.call) (d : ℕ) (above : private ≤ d) (body : List FatStep) (res : Ended Flow) (r : Outcome)
     → Goes private sorts symbols names takes same_place same few d above body (s.Label 0 ∷ []) 0 0 res r → r ≡ outcome_of (answer_of (bind res result_of))
 body_ends private sorts symbols names takes same_place same few d above body (Done Normal z) r h = h.is ∙ ap (λ (w : World). ComesBack no_value w) h.w
 body_ends private sorts symbols names takes same_place same few d above body (Done Broke z) r h = h.is ∙ ap (followed private (run_to symbols private body h.n)) (pass-here symbols [] 0 h.u) ∙ ap (λ (w : World). ComesBack no_value w) h.w

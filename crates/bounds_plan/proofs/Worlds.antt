@@ -9,13 +9,13 @@ use Rattle.mx_base.specs.World.{World, Access, Traced, Log, read_noted, number_w
 use Rattle.fat_ir.specs.Laws.{NoneRefused, NotWritten}
 use Rattle.fat_ir.proofs.Worlds.{Begins, begins-same, begins-join, served-longer, none-refused, not-front, not-back, elsewhere}
 use Rattle.bounds_plan.specs.Core.{NumberExpr, PointerExpr, Scalar, Statement, Skip, Do, Then, If, While, DoWhile, For, Break, Continue, Return, ReturnNumber, ReturnPtr, Effect, Nothing, OfNumber, OfPointer, CopyStruct}
-use Rattle.bounds_plan.specs.State.{Pointer, State, Ended}
+use Rattle.bounds_plan.specs.State.{Passed, Pointer, State, Ended}
 use Rattle.bounds_plan.specs.Accesses.{access}
 use Rattle.bounds_plan.specs.Expressions.{CalleeOfC, Names, number, pointer}
 use Rattle.bounds_plan.specs.Statements.{part, effect, statement}
-use Rattle.bounds_plan.specs.Functions.{Linked, calls}
+use Rattle.bounds_plan.specs.Functions.{Parameter, arrive_all, Linked, calls}
 use Rattle.bounds_plan.specs.Laws.{LeftByCalls, LeftOutside, NoMoreTurns, OutputGrows, Judged, accesses_of, AllWithin, scalar_size, most_bytes, AllInside, LieInside, CopiesWhole, CopyFact, OfEffect, OfCopies}
-use Rattle.bounds_plan.proofs.Runs.{Keeps, Kept, CopiesAll, kept-number, kept-pointer, kept-effect, kept-statement, kept-calls}
+use Rattle.bounds_plan.proofs.Runs.{Keeps, Kept, CopiesAll, kept-number, kept-pointer, kept-effect, kept-statement, kept-arrive_all, kept-calls}
 use Rattle.bounds_plan.proofs.Parts.{part-inside}
 
 abbrev Always : CopyFact
@@ -76,6 +76,9 @@ fewer-effect names h e s = kept-effect NoMoreTurns fewer Always (λ size scalars
 
 pub fewer-statement : (names : Names) → LeftByCalls NoMoreTurns names.call → (st : Statement) (s : State) → Fewer s (statement names st s)
 fewer-statement names h st s = kept-statement NoMoreTurns fewer Always (λ size scalars fit to from e f. fewer-copies to from scalars) names h st (always st) s
+
+pub fewer-arrive : (ps : List Parameter) (args : List Passed) (s : State) → Fewer s (arrive_all ps args s)
+fewer-arrive ps args s = kept-arrive_all NoMoreTurns fewer Always (λ size scalars fit to from e f. fewer-copies to from scalars) ps args s
 
 -- ---- output
 

@@ -1,5 +1,6 @@
 pub mod Accesses
 pub mod Code
+pub mod Compiled
 pub mod Core
 pub mod Expressions
 pub mod Follows

@@ -1,15 +1,19 @@
 //! Laws of the meaning of C. Each function does nothing, and its contract is the law.
 
-ghost use Rattle.std.specs.Prelude.{◌≡◌, ◌≤◌, ℕ, Bool};
+ghost use Rattle.std.specs.Prelude.{◌≡◌, ◌≤◌, ℕ, Bool, List, length};
+ghost use Rattle.mx_base.specs.World.{World, Log};
+ghost use Rattle.fat_ir.specs.Calls.{Callee};
+ghost use Rattle.fat_ir.specs.Functions.{calls as calls_by_steps, program_run as program_run_by_steps};
 ghost use Rattle.fat_ir.specs.Values.{Values};
 ghost use Rattle.fat_ir.specs.Step.{Symbols};
-ghost use Rattle.bounds_plan.specs.State.{State};
+ghost use Rattle.bounds_plan.specs.State.{State, Passed};
 ghost use Rattle.bounds_plan.specs.Expressions.{CalleeOfC, Names};
-ghost use Rattle.bounds_plan.specs.Follows.{FitsStatement, outcome_of, DoesSame, StandsSame, Holds, body_run_by_steps, body_run_in_c};
-ghost use Rattle.bounds_plan.specs.Functions.{Linked, calls};
-ghost use Rattle.fat_ir.specs.Laws.{LacksLabel};
+ghost use Rattle.bounds_plan.specs.Follows.{FitsStatement, values_of, outcome_of, DoesSame, StandsSame, Holds, body_run_by_steps, body_run_in_c};
+ghost use Rattle.bounds_plan.specs.Functions.{FunctionOfC, Linked, body_run, calls, program_run};
+ghost use Rattle.bounds_plan.specs.Compiled.{FitsFunction, function_run_by_steps, all_compiled, parameters_of, FitsProgram, OutsideSame};
+ghost use Rattle.fat_ir.specs.Laws.{LacksLabel, passes_on as passes_on_by_steps};
 ghost use Rattle.bounds_plan.specs.Core.{NumberExpr, PointerExpr, Statement};
-ghost use Rattle.bounds_plan.specs.Code.{labels, labels_ptr, labels_of, code, code_ptr, code_of};
+ghost use Rattle.bounds_plan.specs.Code.{labels, labels_ptr, labels_of, code, code_ptr, code_of, fat_parameters, fat_function};
 ghost use Rattle.bounds_plan.specs.Laws.{IsOutside, LeftByCalls, LeftOutside, NoMoreTurns, OutputGrows, Judged, CopiesWhole, passes_on};
 
 /// No run of a program leaves more turns than there were, if nothing outside of it does.
@@ -50,4 +54,26 @@ pub fn code_has_its_own_labels()
 /// stand among the first values, of which the body names only those of the right sort, and temporaries come after them.
 pub fn compiled_bodies_do_what_they_mean()
     ensures { (names : Names) (symbols : Symbols) (takes : ℕ → ℕ) → StandsSame names symbols → DoesSame takes names.call symbols.call → LeftByCalls NoMoreTurns names.call → (private : ℕ) (is_bounds : ℕ → Bool) (body : Statement) → FitsStatement private is_bounds takes body → (temp : ℕ) → private ≤ temp → (state : State) (values : Values) → Holds private is_bounds state values → body_run_by_steps symbols private body temp values state.world ≡ outcome_of (body_run_in_c names body state) }
+{}
+
+/// The steps of a function do what the function does, from the arrival of its arguments to its end, for every meaning of the
+/// functions that it calls, in every world and at every bound on turns: they come back with the same value and bounds, or
+/// stop for the same reason at the same place, and leave the same world. It gets as many arguments as it has parameters.
+pub fn compiled_functions_do_what_they_mean()
+    ensures { (names : Names) (symbols : Symbols) (takes : ℕ → ℕ) → StandsSame names symbols → DoesSame takes names.call symbols.call → LeftByCalls NoMoreTurns names.call → (f : FunctionOfC) → FitsFunction takes f → (name : ℕ) (args : List Passed) → length args ≡ length f.parameters → (w : World) (log : Log) → function_run_by_steps symbols (fat_function name f) (fat_parameters f.parameters) (values_of args) w ≡ outcome_of (body_run names f args w log) }
+{}
+
+/// The steps of a program's functions do what the functions do, called with as many arguments as they take, wherever so many
+/// calls may still be entered: with their turns, their depth and their data frames; and so the steps of a whole program end
+/// as the program does. Functions outside of the program may be called and may call back: they are given by what they do with
+/// either meaning of the C functions, and do the same with both, as long as these do.
+pub fn compiled_programs_do_what_they_mean()
+    ensures calls { (takes_outside : ℕ → ℕ) (program : ℕ → Linked) → FitsProgram takes_outside program → (outside : CalleeOfC → CalleeOfC) (by_steps : Callee → Callee) → OutsideSame (parameters_of program) takes_outside outside by_steps → LeftOutside NoMoreTurns outside → (name : ℕ → ℕ) (depth : ℕ) → DoesSame (parameters_of program) (calls program outside depth) (calls_by_steps (all_compiled name program) by_steps depth) }
+    ensures ends { (takes_outside : ℕ → ℕ) (program : ℕ → Linked) → FitsProgram takes_outside program → (outside : CalleeOfC → CalleeOfC) (by_steps : Callee → Callee) → OutsideSame (parameters_of program) takes_outside outside by_steps → LeftOutside NoMoreTurns outside → (name : ℕ → ℕ) (main : ℕ) → parameters_of program main ≡ 0 → (w : World) (log : Log) → program_run_by_steps (all_compiled name program) by_steps main w ≡ outcome_of (program_run program outside main w log) }
+{}
+
+/// What is outside of a program can do the same with both meanings of its functions: for one, a function that calls the C
+/// function of its own number with its own arguments.
+pub fn outside_can_do_the_same()
+    ensures { (takes : ℕ → ℕ) → OutsideSame takes takes passes_on passes_on_by_steps }
 {}
