@@ -141,7 +141,7 @@ calls_follow takes_outside program fits outside by_steps out few name (suc depth
     let same : DoesSame takes names.call symbols.call = λ symbol args w log count. call_same (parameters_of program) takes_outside own (outside own) fat (by_steps fat) own_same (out own fat own_same own_few) ((program f).targets symbol) args w log count in
     let symbols_few : LeftByCalls NoMoreTurns names.call = λ symbol args w log. few_of own (outside own) own_few (few own own_few) ((program f).targets symbol) symbol args w log in
     taking_same w log _ _
-    (λ u. entering_same (program f).fun.frame u log _ _
+    (λ u. entering_same (program f).fun.frame u (entered_at depth log) _ _
     (λ x. returning_same u.data_sp (body_run names (program f).fun args x (entered_at depth log)) _
     (functions_follow names symbols takes (λ symbol. refl) same symbols_few (program f).fun (fits f) (name f) args count x (entered_at depth log))))
 

@@ -397,8 +397,8 @@ module _ (R : Relation) (k : Keeps R) where
 
     pub kept-calls : (program : ℕ → Linked) → ((f : ℕ) → OfCopies F (program f).fun.body) → (outside : CalleeOfC → CalleeOfC) → ((own : CalleeOfC) → KeptF own → KeptF (outside own)) → (depth : ℕ) → KeptF (calls program outside depth)
     kept-calls program fits outside out zero f args w l = kept-taking_turn w l _ (λ u. k.same u l)
-    kept-calls program fits outside out (suc depth) f args w l = kept-taking_turn w l _ (λ u. kept-entering (program f).fun.frame u l _ (λ x.
-        kept-returning u.data_sp x l _ (onward x l x (entered_at depth l) _ (k.logged x l _ refl)
+    kept-calls program fits outside out (suc depth) f args w l = kept-taking_turn w l _ (λ u. onward u l u (entered_at depth l) _ (k.logged u l _ refl) (kept-entering (program f).fun.frame u (entered_at depth l) _ (λ x.
+        kept-returning u.data_sp x (entered_at depth l) _
         (kept-body_run (names_of (program f) (calls program outside depth) (outside (calls program outside depth)))
         (λ symbol args u l. kept-call_of ((program f).targets symbol) (calls program outside depth) (outside (calls program outside depth)) (kept-calls program fits outside out depth) (out (calls program outside depth) (kept-calls program fits outside out depth)) args u l)
         (program f).fun (fits f) args x (entered_at depth l)))))

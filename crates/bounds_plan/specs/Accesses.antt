@@ -1,5 +1,5 @@
 -- Accesses of C: judged by the pointer's bounds, then by the bytes, and then done.
-use Rattle.std.specs.Prelude.{ℕ, Bool, true, false, ◌==◌, if◌then◌else◌, Option, None, Some, Result, Ok, Err, [], ◌∷◌, ◌++◌}
+use Rattle.std.specs.Prelude.{ℕ, Bool, true, false, ◌==◌, if◌then◌else◌, Option, None, Some, Result, Ok, Err}
 use Rattle.std.specs.Option.{option_map}
 use Rattle.mx_base.specs.declared.limits.Bounds.{Bounds as BoundsPair}
 use Rattle.mx_base.specs.declared.numbers.IntKind.{IntKind}
@@ -12,7 +12,7 @@ use Rattle.mx_base.specs.BoundsStore.{Kept, granule}
 use Rattle.mx_base.specs.StopOfC.{StopOfC, Bounds, NoTable, AtPlace}
 use Rattle.mx_base.specs.World.{World, NothingKept, Root, FullBy, Log, read_noted, number_written, pointer_read, pointer_written}
 use Rattle.fat_ir.specs.Step.{stop_by}
-use Rattle.bounds_plan.specs.State.{Pointer, State, Ended, Done, Stopped, M, ◌>>◌, unless, with_access, with_cause}
+use Rattle.bounds_plan.specs.State.{Pointer, State, Ended, Done, Stopped, M, ◌>>◌, unless, with_access, with_cause, listed}
 
 -- the stop of an access that leaves its bounds by a value
 abbrev pub leaves : BoundsPair → Place → Option ℕ → Option StopOfC
@@ -39,7 +39,7 @@ write_number kind p n = λ s. Done tt record s { world = number_written (size_of
 
 -- the granule was asked for
 abbrev pub with_granule : ℕ → Log → Log
-with_granule a l = record l { granules = l.granules ++ granule a ∷ [] }
+with_granule a l = record l { granules = listed (granule a) l.granules }
 
 -- the root of the bounds that were loaded for a value: that of what is kept for this value, or that nothing was
 abbrev pub root_for : (value : ℕ) → Option Kept → Option Root → Option Root

@@ -129,7 +129,7 @@ entered_at depth log = record log { deepest = max log.deepest (most_depth - dept
 -- the C functions, which it may call. A call takes a turn, then counts for the depth, then makes its frame.
 abbrev pub calls : (ℕ → Linked) → (outside : CalleeOfC → CalleeOfC) → (depth : ℕ) → CalleeOfC
 calls program outside zero f args w log = taking_turn w log (λ u. Stops StackOver u log)
-calls program outside (suc depth) f args w log = taking_turn w log (λ u. entering (program f).fun.frame u log (λ x.
+calls program outside (suc depth) f args w log = taking_turn w log (λ u. entering (program f).fun.frame u (entered_at depth log) (λ x.
     returning u.data_sp (body_run (names_of (program f) (calls program outside depth) (outside (calls program outside depth))) (program f).fun args x (entered_at depth log))))
 
 -- how a program ends whose `main` is f: by the low 8 bits of its result

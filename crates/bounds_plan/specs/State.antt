@@ -1,6 +1,6 @@
 -- The state of a C function that runs, and computations on it.
 use Rattle.std.specs.Prelude.{ℕ, ◌+◌, ◌-◌, ◌/◌, ◌==◌, ◌&&◌, if◌then◌else◌, Option, None, Some, List, [], ◌∷◌, ◌++◌, length}
-use Rattle.std.specs.List.{position_or_len}
+use Rattle.std.specs.List.{position_or_len, list_any}
 use Rattle.mx_base.specs.declared.limits.Bounds.{Bounds}
 use Rattle.mx_base.specs.Bounds.{full_bounds}
 use Rattle.mx_base.specs.StopOfC.{StopOfC}
@@ -86,15 +86,19 @@ place_of b made = position_or_len (λ (d : Bounds). d.lb == b.lb && d.ub == b.ub
 abbrev pub made_before : ℕ → Bounds → M Pointer
 made_before address b = λ s. Done record { address = address; rooted = record { bounds = b; root = MadeAt (place_of b s.log.made) } } s
 
--- the pages that an access writes
-abbrev pub pages_of : Access → List ℕ
-pages_of a = if a.write then a.at / 4096 ∷ (a.at + a.size - 1) / 4096 ∷ [] else []
+-- a list with a number that stands in it once
+abbrev pub listed : ℕ → List ℕ → List ℕ
+listed n list = if list_any (λ m. m == n) list then list else list ++ n ∷ []
+
+-- the pages written once an access is done, which has bytes of two at most
+abbrev pub pages_with : Access → List ℕ → List ℕ
+pages_with a pages = if a.write then listed ((a.at + a.size - 1) / 4096) (listed (a.at / 4096) pages) else pages
 
 -- an access through a pointer
 abbrev pub with_access : Rooted → Access → Log → Log
 with_access r a l = record l {
   trace = l.trace ++ record { access = a; bounds = Some r; made = length l.made; causes = length l.causes } ∷ [];
-  pages = l.pages ++ pages_of a;
+  pages = pages_with a l.pages;
 }
 
 -- ---- private variables
