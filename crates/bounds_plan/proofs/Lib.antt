@@ -6,6 +6,9 @@ mod Flows
 mod Fresh
 mod Parts
 mod Pieces
+mod Rooted
+mod RootedCalls
+mod Roots
 mod Runs
 mod Sim
 mod Whole

@@ -1,5 +1,5 @@
 -- Where bounds come from: each pair has a root, which was made, or is full for a cause that happened, and it lies within its root.
-use Rattle.std.specs.Prelude.{ℕ, ◌≡◌, ◌≤◌, ◌<◌, Option, None, Some, List, [], ◌∷◌, ◌++◌, length}
+use Rattle.std.specs.Prelude.{ℕ, ◌+◌, ◌≡◌, true, ◌≤◌, ◌<◌, Option, None, Some, List, [], ◌∷◌, ◌++◌, length}
 use Rattle.mx_base.specs.declared.limits.Bounds.{Bounds}
 use Rattle.mx_base.specs.Bounds.{full_bounds, moved, bounds_at}
 use Rattle.mx_base.specs.BoundsStore.{Kept, BoundsStore}
@@ -10,6 +10,7 @@ use Rattle.bounds_plan.specs.State.{Passed, OfNumber, OfPointer}
 use Rattle.bounds_plan.specs.Expressions.{Answer, Comes, Stops, CalleeOfC}
 use Rattle.bounds_plan.specs.Functions.{Parameter, Private, Framed, Framed_variable, Linked}
 use Rattle.bounds_plan.specs.Laws.{scalar_size}
+use Rattle.bounds_plan.specs.Compiled.{sorts_of}
 
 -- ---- roots
 
@@ -109,74 +110,75 @@ pub record StandsIn {A : Type 0} (x : A) (list : List A) : Type 0 where
   pub after : List A
   pub is : list ≡ before ++ x ∷ after
 
--- a fact of each symbol that a tree names as an object or function, with offset and size, and one of each variable in the frame
+-- a fact of each symbol that a tree names as an object or function, with offset and size, one of each variable in the frame, and one of
+-- each private pointer
 abbrev mutual
-  pub Names : (ℕ → ℕ → ℕ → Type 0) → (ℕ → ℕ → Type 0) → NumberExpr → Type 0
-  Names S F (Word n) = Unit {0}
-  Names S F (Variable x) = Unit {0}
-  Names S F (Assign x e) = Names S F e
-  Names S F (Operate op kind a b) = Names S F a × Names S F b
-  Names S F (Compare op kind a b) = Names S F a × Names S F b
-  Names S F (Convert kind e) = Names S F e
-  Names S F (AsNumber p) = NamesPtr S F p
-  Names S F (Load kind place p) = NamesPtr S F p
-  Names S F (Store kind place p e) = NamesPtr S F p × Names S F e
-  Names S F (Update x kind op common e old) = Names S F e
-  Names S F (UpdateAt kind place p op common e old) = NamesPtr S F p × Names S F e
-  Names S F (And a b) = Names S F a × Names S F b
-  Names S F (Or a b) = Names S F a × Names S F b
-  Names S F (Choose test a b) = Names S F test × Names S F a × Names S F b
-  Names S F (Call symbol args) = NamesAll S F args
-  Names S F (Serve n e) = Names S F e
-  Names S F (Ask n) = Unit {0}
+  pub Names : (ℕ → ℕ → ℕ → Type 0) → (ℕ → ℕ → Type 0) → (ℕ → Type 0) → NumberExpr → Type 0
+  Names S F P (Word n) = Unit {0}
+  Names S F P (Variable x) = Unit {0}
+  Names S F P (Assign x e) = Names S F P e
+  Names S F P (Operate op kind a b) = Names S F P a × Names S F P b
+  Names S F P (Compare op kind a b) = Names S F P a × Names S F P b
+  Names S F P (Convert kind e) = Names S F P e
+  Names S F P (AsNumber p) = NamesPtr S F P p
+  Names S F P (Load kind place p) = NamesPtr S F P p
+  Names S F P (Store kind place p e) = NamesPtr S F P p × Names S F P e
+  Names S F P (Update x kind op common e old) = Names S F P e
+  Names S F P (UpdateAt kind place p op common e old) = NamesPtr S F P p × Names S F P e
+  Names S F P (And a b) = Names S F P a × Names S F P b
+  Names S F P (Or a b) = Names S F P a × Names S F P b
+  Names S F P (Choose test a b) = Names S F P test × Names S F P a × Names S F P b
+  Names S F P (Call symbol args) = NamesAll S F P args
+  Names S F P (Serve n e) = Names S F P e
+  Names S F P (Ask n) = Unit {0}
 
-  pub NamesPtr : (ℕ → ℕ → ℕ → Type 0) → (ℕ → ℕ → Type 0) → PointerExpr → Type 0
-  NamesPtr S F Null = Unit {0}
-  NamesPtr S F (FromInteger e) = Names S F e
-  NamesPtr S F (Function symbol) = S symbol 0 1
-  NamesPtr S F (Object symbol offset size) = S symbol offset size
-  NamesPtr S F (InFrame offset size) = F offset size
-  NamesPtr S F (VariablePtr x) = Unit {0}
-  NamesPtr S F (AssignPtr x e) = NamesPtr S F e
-  NamesPtr S F (Member offset rule p) = NamesPtr S F p
-  NamesPtr S F (Element minus size p i) = NamesPtr S F p × Names S F i
-  NamesPtr S F (LoadPtr place p) = NamesPtr S F p
-  NamesPtr S F (StorePtr place p e) = NamesPtr S F p × NamesPtr S F e
-  NamesPtr S F (Advance x minus size i old) = Names S F i
-  NamesPtr S F (AdvanceAt place p minus size i old) = NamesPtr S F p × Names S F i
-  NamesPtr S F (ChoosePtr test a b) = Names S F test × NamesPtr S F a × NamesPtr S F b
-  NamesPtr S F (CallPtr symbol args) = NamesAll S F args
-  NamesPtr S F (Alloc e) = Names S F e
-  NamesPtr S F (SetBounds q n) = NamesPtr S F q × Names S F n
-  NamesPtr S F (NarrowBounds p q n) = NamesPtr S F p × NamesPtr S F q × Names S F n
-  NamesPtr S F (CopyBounds q r) = NamesPtr S F q × NamesPtr S F r
-  NamesPtr S F (InitBounds q) = NamesPtr S F q
-  NamesPtr S F (BoundOf upper q) = NamesPtr S F q
+  pub NamesPtr : (ℕ → ℕ → ℕ → Type 0) → (ℕ → ℕ → Type 0) → (ℕ → Type 0) → PointerExpr → Type 0
+  NamesPtr S F P Null = Unit {0}
+  NamesPtr S F P (FromInteger e) = Names S F P e
+  NamesPtr S F P (Function symbol) = S symbol 0 1
+  NamesPtr S F P (Object symbol offset size) = S symbol offset size
+  NamesPtr S F P (InFrame offset size) = F offset size
+  NamesPtr S F P (VariablePtr x) = P x
+  NamesPtr S F P (AssignPtr x e) = P x × NamesPtr S F P e
+  NamesPtr S F P (Member offset rule p) = NamesPtr S F P p
+  NamesPtr S F P (Element minus size p i) = NamesPtr S F P p × Names S F P i
+  NamesPtr S F P (LoadPtr place p) = NamesPtr S F P p
+  NamesPtr S F P (StorePtr place p e) = NamesPtr S F P p × NamesPtr S F P e
+  NamesPtr S F P (Advance x minus size i old) = P x × Names S F P i
+  NamesPtr S F P (AdvanceAt place p minus size i old) = NamesPtr S F P p × Names S F P i
+  NamesPtr S F P (ChoosePtr test a b) = Names S F P test × NamesPtr S F P a × NamesPtr S F P b
+  NamesPtr S F P (CallPtr symbol args) = NamesAll S F P args
+  NamesPtr S F P (Alloc e) = Names S F P e
+  NamesPtr S F P (SetBounds q n) = NamesPtr S F P q × Names S F P n
+  NamesPtr S F P (NarrowBounds p q n) = NamesPtr S F P p × NamesPtr S F P q × Names S F P n
+  NamesPtr S F P (CopyBounds q r) = NamesPtr S F P q × NamesPtr S F P r
+  NamesPtr S F P (InitBounds q) = NamesPtr S F P q
+  NamesPtr S F P (BoundOf upper q) = NamesPtr S F P q
 
-  pub NamesAll : (ℕ → ℕ → ℕ → Type 0) → (ℕ → ℕ → Type 0) → Arguments → Type 0
-  NamesAll S F NoMore = Unit {0}
-  NamesAll S F (WithNumber e rest) = Names S F e × NamesAll S F rest
-  NamesAll S F (WithPointer p rest) = NamesPtr S F p × NamesAll S F rest
+  pub NamesAll : (ℕ → ℕ → ℕ → Type 0) → (ℕ → ℕ → Type 0) → (ℕ → Type 0) → Arguments → Type 0
+  NamesAll S F P NoMore = Unit {0}
+  NamesAll S F P (WithNumber e rest) = Names S F P e × NamesAll S F P rest
+  NamesAll S F P (WithPointer p rest) = NamesPtr S F P p × NamesAll S F P rest
 
-abbrev pub NamesEffect : (ℕ → ℕ → ℕ → Type 0) → (ℕ → ℕ → Type 0) → Effect → Type 0
-NamesEffect S F Nothing = Unit {0}
-NamesEffect S F (ForNumber e) = Names S F e
-NamesEffect S F (ForPointer p) = NamesPtr S F p
-NamesEffect S F (CopyStruct size scalars to_place to from_place from) = NamesPtr S F to × NamesPtr S F from
+abbrev pub NamesEffect : (ℕ → ℕ → ℕ → Type 0) → (ℕ → ℕ → Type 0) → (ℕ → Type 0) → Effect → Type 0
+NamesEffect S F P Nothing = Unit {0}
+NamesEffect S F P (ForNumber e) = Names S F P e
+NamesEffect S F P (ForPointer p) = NamesPtr S F P p
+NamesEffect S F P (CopyStruct size scalars to_place to from_place from) = NamesPtr S F P to × NamesPtr S F P from
 
-abbrev pub NamesStatement : (ℕ → ℕ → ℕ → Type 0) → (ℕ → ℕ → Type 0) → Statement → Type 0
-NamesStatement S F Skip = Unit {0}
-NamesStatement S F (Do e) = NamesEffect S F e
-NamesStatement S F (Then a b) = NamesStatement S F a × NamesStatement S F b
-NamesStatement S F (If test a b) = Names S F test × NamesStatement S F a × NamesStatement S F b
-NamesStatement S F (While test body) = Names S F test × NamesStatement S F body
-NamesStatement S F (DoWhile body test) = NamesStatement S F body × Names S F test
-NamesStatement S F (For test step body) = Names S F test × NamesEffect S F step × NamesStatement S F body
-NamesStatement S F Break = Unit {0}
-NamesStatement S F Continue = Unit {0}
-NamesStatement S F Return = Unit {0}
-NamesStatement S F (ReturnNumber e) = Names S F e
-NamesStatement S F (ReturnPtr p) = NamesPtr S F p
+abbrev pub NamesStatement : (ℕ → ℕ → ℕ → Type 0) → (ℕ → ℕ → Type 0) → (ℕ → Type 0) → Statement → Type 0
+NamesStatement S F P Skip = Unit {0}
+NamesStatement S F P (Do e) = NamesEffect S F P e
+NamesStatement S F P (Then a b) = NamesStatement S F P a × NamesStatement S F P b
+NamesStatement S F P (If test a b) = Names S F P test × NamesStatement S F P a × NamesStatement S F P b
+NamesStatement S F P (While test body) = Names S F P test × NamesStatement S F P body
+NamesStatement S F P (DoWhile body test) = NamesStatement S F P body × Names S F P test
+NamesStatement S F P (For test step body) = Names S F P test × NamesEffect S F P step × NamesStatement S F P body
+NamesStatement S F P Break = Unit {0}
+NamesStatement S F P Continue = Unit {0}
+NamesStatement S F P Return = Unit {0}
+NamesStatement S F P (ReturnNumber e) = Names S F P e
+NamesStatement S F P (ReturnPtr p) = NamesPtr S F P p
 
 -- the bounds of an object were made before the program started; a function has none
 abbrev pub ObjectMade : List Bounds → Located → (offset size : ℕ) → Type 0
@@ -192,10 +194,11 @@ ParametersFramed variables [] = Unit {0}
 ParametersFramed variables (Private x kind ∷ rest) = ParametersFramed variables rest
 ParametersFramed variables (Framed offset kind ∷ rest) = IsFramed variables offset (scalar_size kind) × ParametersFramed variables rest
 
--- what a function names has bounds that were made: objects before the program started, and variables of the frame at its entry
+-- what a function names has bounds that were made: objects before the program started, and variables of the frame at its entry; and its
+-- private pointers have bounds
 pub record NamesWhatIsMade (start : List Bounds) (l : Linked) : Type 0 where
   pub parameters : ParametersFramed l.fun.variables l.fun.parameters
-  pub body : NamesStatement (λ symbol offset size. ObjectMade start (l.located symbol) offset size) (IsFramed l.fun.variables) l.fun.body
+  pub body : NamesStatement (λ symbol offset size. ObjectMade start (l.located symbol) offset size) (IsFramed l.fun.variables) (λ x. sorts_of l.fun (x + 1) ≡ true) l.fun.body
 
 abbrev pub AllMade : List Bounds → (ℕ → Linked) → Type 0
 AllMade start program = (f : ℕ) → NamesWhatIsMade start (program f)

@@ -1,7 +1,9 @@
 //! Laws of the meaning of C. Each function does nothing, and its contract is the law.
 
 ghost use Rattle.std.specs.Prelude.{◌≡◌, ◌≤◌, ℕ, Bool, List, length};
-ghost use Rattle.mx_base.specs.World.{World, Log};
+ghost use Rattle.mx_base.specs.declared.limits.Bounds.{Bounds};
+ghost use Rattle.mx_base.specs.Memory.{Bytes};
+ghost use Rattle.mx_base.specs.World.{World, Log, world_at_start, empty_log};
 ghost use Rattle.fat_ir.specs.Calls.{Callee};
 ghost use Rattle.fat_ir.specs.Functions.{calls as calls_by_steps, program_run as program_run_by_steps};
 ghost use Rattle.fat_ir.specs.Values.{Values};
@@ -11,6 +13,7 @@ ghost use Rattle.bounds_plan.specs.Expressions.{CalleeOfC, Names};
 ghost use Rattle.bounds_plan.specs.Follows.{FitsStatement, values_of, outcome_of, DoesSame, StandsSame, Holds, body_run_by_steps, body_run_in_c};
 ghost use Rattle.bounds_plan.specs.Functions.{FunctionOfC, Linked, body_run, calls, program_run};
 ghost use Rattle.bounds_plan.specs.Compiled.{FitsFunction, function_run_by_steps, all_compiled, parameters_of, FitsProgram, OutsideSame};
+ghost use Rattle.bounds_plan.specs.Roots.{AllRooted, RootedCalls, RootedOutside, AllMade};
 ghost use Rattle.fat_ir.specs.Laws.{LacksLabel, passes_on as passes_on_by_steps};
 ghost use Rattle.bounds_plan.specs.Core.{NumberExpr, PointerExpr, Statement};
 ghost use Rattle.bounds_plan.specs.Code.{labels, labels_ptr, labels_of, code, code_ptr, code_of, fat_parameters, fat_function};
@@ -33,12 +36,23 @@ pub fn accesses_stay_within_bounds()
     ensures { (program : ℕ → Linked) → CopiesWhole program → (outside : CalleeOfC → CalleeOfC) → LeftOutside Judged outside → (depth : ℕ) → LeftByCalls Judged (calls program outside depth) }
 {}
 
+/// All bounds have a root, within which they lie: bounds that were made by then, or a cause of full bounds that had happened
+/// by then. Those are the bounds of each access when it was done, of each pointer that is kept in memory, and of each pointer
+/// that is passed to a function or comes back from one. It holds from the start of a program on, if what is outside of it
+/// keeps to that, whatever bounds it hands over or stores. The bounds of the objects that a program names were made before it
+/// started, and it names no variables of its frames but those that it has.
+pub fn bounds_have_roots()
+    ensures calls { (start : List Bounds) (program : ℕ → Linked) → AllMade start program → (outside : CalleeOfC → CalleeOfC) → RootedOutside start outside → (depth : ℕ) → RootedCalls start (calls program outside depth) }
+    ensures starts { (start : List Bounds) (bytes : Bytes) (input : List ℕ) (turns : ℕ) → AllRooted start (world_at_start bytes input turns) record empty_log { made = start } }
+{}
+
 /// What is outside of a program can keep to all of these: for one, a function that calls the C function of its own number
 /// with its own arguments.
 pub fn outside_can_keep_to_laws()
     ensures turns { LeftOutside NoMoreTurns passes_on }
     ensures output { LeftOutside OutputGrows passes_on }
     ensures judged { LeftOutside Judged passes_on }
+    ensures roots { (start : List Bounds) → RootedOutside start passes_on }
 {}
 
 /// The code of a tree has no labels but as many as it needs, from the first one on.

@@ -1,6 +1,7 @@
 use Rattle.bounds_plan.specs.Laws.{NoMoreTurns, OutputGrows, Judged}
 use Rattle.bounds_plan.proofs.Runs.{kept-taking_turn}
 use Rattle.bounds_plan.proofs.Worlds.{fewer, longer, judged}
+use Rattle.bounds_plan.proofs.RootedCalls.{rooted-passed-on}
 use Rattle.bounds_plan.proofs.laws.outside_can_keep_to_laws.Goals as goal
 
 pub returns-clause-turns : goal.returns-clause-turns
@@ -11,3 +12,6 @@ returns-clause-output c = λ own h g args w log. kept-taking_turn OutputGrows lo
 
 pub returns-clause-judged : goal.returns-clause-judged
 returns-clause-judged c = λ own h g args w log. kept-taking_turn Judged judged w log _ (λ u. h g args u log)
+
+pub returns-clause-roots : goal.returns-clause-roots
+returns-clause-roots c = rooted-passed-on
