@@ -28,6 +28,7 @@ use Rattle.bounds_plan.specs.Expressions.{Answer, Comes, Stops, CalleeOfC, Names
 use Rattle.bounds_plan.specs.Statements.{part, copy_scalar, copy_scalars, effect, turn_from, turn, Flow, Normal, Broke, Continued, Returned, Left, after_body, round, loop, round_once, loop_once, after_first, statement}
 use Rattle.bounds_plan.specs.Functions.{Parameter, Private, Framed, Framed_variable, FunctionOfC, arrive, arrive_all, made_in_frame, unset, state_at_entry, result_of, answer_of, body_run, taking_turn, entering, returning, Linked, call_of, names_of, entered_at, calls}
 use Rattle.bounds_plan.specs.Functions.{turn_from as world_turn_from}
+use Rattle.bounds_plan.proofs.Roots.{load-some}
 use Rattle.bounds_plan.specs.Laws.{Relation, Leaves, LeftByCalls, scalar_size, CopyFact, OfEffect, OfCopies}
 
 -- what each small event keeps
@@ -35,12 +36,14 @@ pub record Keeps (R : Relation) : Type 0 where
   pub same : (w : World) (l : Log) → R w l w l
   pub join : (w : World) (l : Log) (u : World) (m : Log) (v : World) (n : Log) → R w l u m → R u m v n → R w l v n
   pub logged : (w : World) (l m : Log) → m.trace ≡ l.trace → R w l w m
-  pub stored : (w : World) (l : Log) (s : BoundsStore) → R w l (with_store w s) l
+  pub asked : (w : World) (l : Log) (s : BoundsStore) → ((g : ℕ) → s.kept g ≡ w.store.kept g) → R w l (with_store w s) l
   pub served : (w : World) (l : Log) (number word answer : ℕ) (g : Guest) → served_in_c number word w ≡ Answers answer g → R w l (record w { guest = g }) l
   pub turned : (w : World) (l : Log) (n : ℕ) → w.turns ≡ suc n → R w l (with_turns n w) l
   pub framed : (w : World) (l : Log) (sp : ℕ) → R w l (with_data_sp sp w) l
   pub read : (w : World) (l : Log) (n : ℕ) (p : Pointer) → refusal false n p.address ≡ None → is_outside p.address n p.rooted.bounds ≡ false → R w l (read_noted n w p.address) (access false n p l)
   pub wrote : (w : World) (l : Log) (n : ℕ) (p : Pointer) (v : ℕ) → refusal true n p.address ≡ None → is_outside p.address n p.rooted.bounds ≡ false → R w l (number_written n w p.address v) (access true n p l)
+  pub wrote_pointer : (w : World) (l : Log) (p : Pointer) (v : ℕ) (b : BoundsPair) (s : BoundsStore) → refusal true 8 p.address ≡ None → is_outside p.address 8 p.rooted.bounds ≡ false → keep_bounds w.store p.address v b ≡ Some s
+      → R w l (with_store (number_written 8 w p.address v) s) (access true 8 p l)
 
 module _ (R : Relation) (k : Keeps R) where
   abbrev pub From : {A : Type 0} → World → Log → Ended A → Type 0
@@ -102,6 +105,10 @@ module _ (R : Relation) (k : Keeps R) where
   abbrev pub Writes : ℕ → Pointer → Type 0
   Writes n p = (w : World) (l : Log) (v : ℕ) → R w l (number_written n w p.address v) (access true n p l)
 
+  -- and the writing of a pointer, whose bounds are kept
+  abbrev pub KeepsAt : Pointer → Type 0
+  KeepsAt p = (w : World) (l : Log) (v : ℕ) (b : BoundsPair) (s : BoundsStore) → keep_bounds w.store p.address v b ≡ Some s → R w l (with_store (number_written 8 w p.address v) s) (access true 8 p l)
+
   kept-read_number : (kind : IntKind) (p : Pointer) → Reads (size_of kind) p → KeptM (read_number kind p)
   kept-read_number kind p h = λ s. h s.world s.log
 
@@ -112,23 +119,24 @@ module _ (R : Relation) (k : Keeps R) where
   kept-root value b (Some root) w l u s h = h
   kept-root value b None w l u s h = k.join w l u s.log u _ h (k.logged u s.log _ refl)
 
-  kept-came : (p : Pointer) (w : World) (l : Log) (t : World) (v : ℕ) (o : Option (BoundsPair × BoundsStore)) (s : State) → R w l t s.log → From w l (came p (loaded_or_stopped t v o) s)
-  kept-came p w l t v None s h = h
-  kept-came p w l t v (Some q) s h = kept-root v q.0 _ w l (with_store t q.1) record s { log = with_granule p.address s.log }
+  kept-came : (p : Pointer) (w : World) (l : Log) (t : World) (v : ℕ) (o : Option (BoundsPair × BoundsStore)) (s : State) → load_bounds t.store p.address v ≡ o → R w l t s.log → From w l (came p (loaded_or_stopped t v o) s)
+  kept-came p w l t v None s e h = h
+  kept-came p w l t v (Some q) s e h = kept-root v q.0 _ w l (with_store t q.1) record s { log = with_granule p.address s.log }
       (k.join w l t s.log (with_store t q.1) (with_granule p.address s.log) h
-      (k.join t s.log (with_store t q.1) s.log (with_store t q.1) (with_granule p.address s.log) (k.stored t s.log q.1) (k.logged (with_store t q.1) s.log _ refl)))
+      (k.join t s.log (with_store t q.1) s.log (with_store t q.1) (with_granule p.address s.log) (k.asked t s.log q.1 (load-some t.store p.address v q e).1) (k.logged (with_store t q.1) s.log _ refl)))
 
   pub kept-read_pointer : (p : Pointer) → Reads 8 p → KeptM (read_pointer p)
   unfolding pointer_read
-  kept-read_pointer p h = λ s. kept-came p s.world s.log (read_noted 8 s.world p.address) (number_at 8 s.world.bytes p.address) (load_bounds s.world.store p.address (number_at 8 s.world.bytes p.address)) record s { log = access false 8 p s.log } (h s.world s.log)
+  kept-read_pointer p h = λ s. kept-came p s.world s.log (read_noted 8 s.world p.address) (number_at 8 s.world.bytes p.address) (load_bounds s.world.store p.address (number_at 8 s.world.bytes p.address)) record s { log = access false 8 p s.log } refl (h s.world s.log)
 
-  kept-went : (p : Pointer) (root : Root) (w : World) (l : Log) (t : World) (o : Option BoundsStore) (s : State) → R w l t s.log → From w l (went p root (stored_or_stopped t o) s)
-  kept-went p root w l t None s h = h
-  kept-went p root w l t (Some q) s h = k.join w l t s.log (with_store t q) _ h (k.join t s.log (with_store t q) s.log (with_store t q) _ (k.stored t s.log q) (k.logged (with_store t q) s.log _ refl))
+  kept-went : (p : Pointer) (root : Root) (v : ℕ) (b : BoundsPair) (o : Option BoundsStore) (s : State) → Writes 8 p → KeepsAt p → keep_bounds s.world.store p.address v b ≡ o
+      → From s.world s.log (went p root (stored_or_stopped (number_written 8 s.world p.address v) o) record s { log = access true 8 p s.log })
+  kept-went p root v b None s h g e = h s.world s.log v
+  kept-went p root v b (Some q) s h g e = let u = with_store (number_written 8 s.world p.address v) q in k.join s.world s.log u (access true 8 p s.log) u _ (g s.world s.log v b q e) (k.logged u (access true 8 p s.log) _ refl)
 
-  pub kept-write_pointer : (p v : Pointer) → Writes 8 p → KeptM (write_pointer p v)
+  pub kept-write_pointer : (p v : Pointer) → Writes 8 p → KeepsAt p → KeptM (write_pointer p v)
   unfolding pointer_written
-  kept-write_pointer p v h = λ s. kept-went p v.rooted.root s.world s.log (number_written 8 s.world p.address v.address) (keep_bounds s.world.store p.address v.address v.rooted.bounds) record s { log = access true 8 p s.log } (h s.world s.log v.address)
+  kept-write_pointer p v h g = λ s. kept-went p v.rooted.root v.address v.rooted.bounds (keep_bounds s.world.store p.address v.address v.rooted.bounds) s h g refl
 
   kept-load : (kind : IntKind) (place : Place) (p : Pointer) → KeptM (load kind place p)
   kept-load kind place p = kept-judge (size_of kind) place p _ (λ in_bounds. kept-allow false (size_of kind) p _ (λ open_bytes. kept-read_number kind p (λ w l. k.read w l (size_of kind) p open_bytes in_bounds)))
@@ -140,7 +148,7 @@ module _ (R : Relation) (k : Keeps R) where
   kept-load_ptr place p = kept-judge 8 place p _ (λ in_bounds. kept-allow false 8 p _ (λ open_bytes. kept-read_pointer p (λ w l. k.read w l 8 p open_bytes in_bounds)))
 
   kept-store_ptr : (place : Place) (p v : Pointer) → KeptM (store_ptr place p v)
-  kept-store_ptr place p v = kept-judge 8 place p _ (λ in_bounds. kept-allow true 8 p _ (λ open_bytes. kept-write_pointer p v (λ w l n. k.wrote w l 8 p n open_bytes in_bounds)))
+  kept-store_ptr place p v = kept-judge 8 place p _ (λ in_bounds. kept-allow true 8 p _ (λ open_bytes. kept-write_pointer p v (λ w l n. k.wrote w l 8 p n open_bytes in_bounds) (λ w l n b s e. k.wrote_pointer w l p n b s open_bytes in_bounds e)))
 
   -- ---- calls and services
 
@@ -250,14 +258,14 @@ module _ (R : Relation) (k : Keeps R) where
 
   -- what the accesses of a scalar keep
   abbrev pub CopiesScalar : (to from : Pointer) → ℕ → ℕ → Type 0
-  CopiesScalar to from offset n = (refusal false n (part offset from).address ≡ None → Reads n (part offset from)) × (refusal true n (part offset to).address ≡ None → Writes n (part offset to))
+  CopiesScalar to from offset n = (refusal false n (part offset from).address ≡ None → Reads n (part offset from)) × (refusal true n (part offset to).address ≡ None → Writes n (part offset to)) × (n ≡ 8 → refusal true 8 (part offset to).address ≡ None → KeepsAt (part offset to))
 
   abbrev pub CopiesAll : (to from : Pointer) → List Scalar → Type 0
   CopiesAll to from [] = Unit {0}
   CopiesAll to from (x ∷ rest) = CopiesScalar to from x.offset (scalar_size x.kind) × CopiesAll to from rest
 
   kept-copy_scalar : (kind : Option IntKind) (offset : ℕ) (to from : Pointer) → CopiesScalar to from offset (scalar_size kind) → KeptM (copy_scalar kind (part offset to) (part offset from))
-  kept-copy_scalar None offset to from h = kept-allow false 8 (part offset from) _ (λ e. seq (read_pointer (part offset from)) _ (kept-read_pointer (part offset from) (h.0 e)) (λ v. kept-allow true 8 (part offset to) (write_pointer (part offset to) v) (λ f. kept-write_pointer (part offset to) v (h.1 f))))
+  kept-copy_scalar None offset to from h = kept-allow false 8 (part offset from) _ (λ e. seq (read_pointer (part offset from)) _ (kept-read_pointer (part offset from) (h.0 e)) (λ v. kept-allow true 8 (part offset to) (write_pointer (part offset to) v) (λ f. kept-write_pointer (part offset to) v (h.1 f) (h.2 refl f))))
   kept-copy_scalar (Some kind) offset to from h = kept-allow false (size_of kind) (part offset from) _ (λ e. seq (read_number kind (part offset from)) _ (kept-read_number kind (part offset from) (h.0 e)) (λ n. kept-allow true (size_of kind) (part offset to) (write_number kind (part offset to) n) (λ f. kept-write_number kind (part offset to) n (h.1 f))))
 
   kept-copy_scalars : (scalars : List Scalar) (to from : Pointer) → CopiesAll to from scalars → KeptM (copy_scalars scalars to from)
@@ -347,7 +355,7 @@ module _ (R : Relation) (k : Keeps R) where
     kept-arrive (Private x (Some kind)) v = λ s. k.same s.world s.log
     kept-arrive (Private x None) v = seq (pointer_passed v) _ (kept-pointer_passed v) (λ q s. k.same s.world s.log)
     kept-arrive (Framed offset (Some kind)) v = kept-frame {B = Unit {0}} offset (size_of kind) (λ p. allow true (size_of kind) p >> write_number kind p (number_passed v)) (λ p in_bounds. kept-allow true (size_of kind) p (write_number kind p (number_passed v)) (λ open_bytes. kept-write_number kind p (number_passed v) (λ w l n. k.wrote w l (size_of kind) p n open_bytes in_bounds))) (some-size kind)
-    kept-arrive (Framed offset None) v = kept-frame {B = Unit {0}} offset 8 (λ p. pointer_passed v >>= (λ q. allow true 8 p >> write_pointer p q)) (λ p in_bounds. seq (pointer_passed v) (λ q. allow true 8 p >> write_pointer p q) (kept-pointer_passed v) (λ q. kept-allow true 8 p (write_pointer p q) (λ open_bytes. kept-write_pointer p q (λ w l n. k.wrote w l 8 p n open_bytes in_bounds)))) (omega arith)
+    kept-arrive (Framed offset None) v = kept-frame {B = Unit {0}} offset 8 (λ p. pointer_passed v >>= (λ q. allow true 8 p >> write_pointer p q)) (λ p in_bounds. seq (pointer_passed v) (λ q. allow true 8 p >> write_pointer p q) (kept-pointer_passed v) (λ q. kept-allow true 8 p (write_pointer p q) (λ open_bytes. kept-write_pointer p q (λ w l n. k.wrote w l 8 p n open_bytes in_bounds) (λ w l n b s e. k.wrote_pointer w l p n b s open_bytes in_bounds e)))) (omega arith)
 
     pub kept-arrive_all : (ps : List Parameter) (args : List Passed) → KeptM (arrive_all ps args)
     kept-arrive_all [] args = λ s. k.same s.world s.log

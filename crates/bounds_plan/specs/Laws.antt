@@ -1,8 +1,9 @@
 -- What the laws of the meaning of C say.
-use Rattle.std.specs.Prelude.{◌≡◌, ◌≤◌, ℕ, ◌+◌, false, Option, None, Some, List, [], ◌∷◌, ◌++◌}
+use Rattle.std.specs.Prelude.{◌≡◌, ◌≢◌, ◌≤◌, ℕ, ◌+◌, true, false, Option, None, Some, List, [], ◌∷◌, ◌++◌}
 use Rattle.mx_base.specs.declared.numbers.IntKind.{IntKind}
 use Rattle.mx_base.specs.Numbers.{size_of}
 use Rattle.mx_base.specs.Bounds.{is_outside}
+use Rattle.mx_base.specs.BoundsStore.{granule}
 use Rattle.mx_base.specs.World.{World, Access, Rooted, Traced, Log}
 use Rattle.fat_ir.specs.Laws.{NoneRefused, NotWritten}
 use Rattle.bounds_plan.specs.Core.{Scalar, Effect, Nothing, OfNumber, OfPointer, CopyStruct, Statement, Skip, Do, Then, If, While, DoWhile, For, Break, Continue, Return, ReturnNumber, ReturnPtr}
@@ -52,15 +53,38 @@ abbrev pub AllWithin : List Traced → Type 0
 AllWithin [] = Unit {0}
 AllWithin (t ∷ rest) = LiesWithin t.bounds t.access × AllWithin rest
 
--- the accesses between two worlds: the log has them with their bounds, each lies within its own, none was refused, and every byte that
--- none of them wrote is as before
+-- the accesses between two worlds: the log has them with their bounds, each lies within its own, and none was refused
 pub record Judged (w : World) (log : Log) (u : World) (after : Log) : Type 0 where
   pub more : List Traced
   pub trace : after.trace ≡ log.trace ++ more
   pub accesses : u.accesses ≡ w.accesses ++ accesses_of more
   pub within : AllWithin more
   pub allowed : NoneRefused (accesses_of more)
-  pub others : (x : ℕ) → NotWritten x (accesses_of more) → u.bytes x ≡ w.bytes x
+
+-- none of the accesses is the writing of a pointer to the granule g
+abbrev pub NotKept : ℕ → List Access → Type 0
+NotKept g [] = Unit {0}
+NotKept g (a ∷ rest) = (a.write ≡ true → a.size ≡ 8 → g ≢ granule a.at) × NotKept g rest
+
+-- and memory and the bounds that are kept changed by them alone: every byte that none of them wrote is as before, and so is what is kept
+-- for every granule to which none of them wrote a pointer
+pub record OnlyWrites (w : World) (log : Log) (u : World) (after : Log) : Type 0 where
+  pub judged : Judged w log u after
+  pub bytes : (x : ℕ) → NotWritten x (accesses_of judged.more) → u.bytes x ≡ w.bytes x
+  pub kept : (g : ℕ) → NotKept g (accesses_of judged.more) → u.store.kept g ≡ w.store.kept g
+
+-- ---- runs in pieces
+
+-- what the events of code outside of a program do to a world and its log, which may be anything; numbers tell which event it is, as those of
+-- an instruction and its registers
+abbrev pub Events : Type 0
+Events = List ℕ → World → Log → World × Log
+
+-- a run goes in pieces, each of which is an event outside, or one of C, where memory and the bounds that are kept change by writes alone
+pub data InPieces (event : Events) : World → Log → World → Log → Type 0 where
+  PieceOfC : (w : World) → (log : Log) → (u : World) → (after : Log) → (is : OnlyWrites w log u after) → InPieces event w log u after
+  EventOutside : (w : World) → (log : Log) → (u : World) → (after : Log) → (numbers : List ℕ) → (is : event numbers w log ≡ (u, after)) → InPieces event w log u after
+  Joined : (w : World) → (log : Log) → (u : World) → (middle : Log) → (v : World) → (after : Log) → (first : InPieces event w log u middle) → (rest : InPieces event u middle v after) → InPieces event w log v after
 
 -- ---- structs that are copied
 

@@ -17,7 +17,7 @@ ghost use Rattle.bounds_plan.specs.Roots.{AllRooted, RootedCalls, RootedOutside,
 ghost use Rattle.fat_ir.specs.Laws.{LacksLabel, passes_on as passes_on_by_steps};
 ghost use Rattle.bounds_plan.specs.Core.{NumberExpr, PointerExpr, Statement};
 ghost use Rattle.bounds_plan.specs.Code.{labels, labels_ptr, labels_of, code, code_ptr, code_of, fat_parameters, fat_function};
-ghost use Rattle.bounds_plan.specs.Laws.{IsOutside, LeftByCalls, LeftOutside, NoMoreTurns, OutputGrows, Judged, CopiesWhole, passes_on};
+ghost use Rattle.bounds_plan.specs.Laws.{IsOutside, LeftByCalls, LeftOutside, NoMoreTurns, OutputGrows, Judged, OnlyWrites, Events, InPieces, CopiesWhole, passes_on};
 
 /// No run of a program leaves more turns than there were, if nothing outside of it does.
 pub fn turns_never_grow()
@@ -29,11 +29,20 @@ pub fn output_only_grows()
     ensures { (program : ℕ → Linked) (outside : CalleeOfC → CalleeOfC) → LeftOutside OutputGrows outside → (depth : ℕ) → LeftByCalls OutputGrows (calls program outside depth) }
 {}
 
-/// Every access of a run lies within the bounds of its pointer, and memory changes by the accesses alone, if what is outside
-/// of the program keeps to that: the log has each access of the world with its bounds, which it doesn't leave; none was
-/// refused; and every byte that none of them wrote is as before. The scalars of a struct that is copied lie inside it.
+/// Every access of a run lies within the bounds of its pointer, if what is outside of the program keeps to that: the log has
+/// each access of the world with its bounds, which it doesn't leave, and none was refused. The scalars of a struct that is
+/// copied lie inside it.
 pub fn accesses_stay_within_bounds()
     ensures { (program : ℕ → Linked) → CopiesWhole program → (outside : CalleeOfC → CalleeOfC) → LeftOutside Judged outside → (depth : ℕ) → LeftByCalls Judged (calls program outside depth) }
+{}
+
+/// Memory and the bounds that are kept for it change by the writes of C alone. Where code outside of the program changes them
+/// too, a run goes in pieces, each of which is an event of that code or a piece of C between such events, in which every byte
+/// that no access wrote is as before, and so is what is kept for every 8 bytes to which no pointer was written. What is
+/// outside goes in such pieces too, as long as the C functions that it calls do.
+pub fn memory_changes_by_writes()
+    ensures alone { (program : ℕ → Linked) → CopiesWhole program → (outside : CalleeOfC → CalleeOfC) → LeftOutside OnlyWrites outside → (depth : ℕ) → LeftByCalls OnlyWrites (calls program outside depth) }
+    ensures between { (event : Events) (program : ℕ → Linked) → CopiesWhole program → (outside : CalleeOfC → CalleeOfC) → LeftOutside (InPieces event) outside → (depth : ℕ) → LeftByCalls (InPieces event) (calls program outside depth) }
 {}
 
 /// All bounds have a root, within which they lie: bounds that were made by then, or a cause of full bounds that had happened
@@ -52,6 +61,8 @@ pub fn outside_can_keep_to_laws()
     ensures turns { LeftOutside NoMoreTurns passes_on }
     ensures output { LeftOutside OutputGrows passes_on }
     ensures judged { LeftOutside Judged passes_on }
+    ensures writes { LeftOutside OnlyWrites passes_on }
+    ensures pieces { (event : Events) → LeftOutside (InPieces event) passes_on }
     ensures roots { (start : List Bounds) → RootedOutside start passes_on }
 {}
 

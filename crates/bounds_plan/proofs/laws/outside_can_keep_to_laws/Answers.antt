@@ -1,6 +1,6 @@
-use Rattle.bounds_plan.specs.Laws.{NoMoreTurns, OutputGrows, Judged}
+use Rattle.bounds_plan.specs.Laws.{NoMoreTurns, OutputGrows, Judged, OnlyWrites, InPieces}
 use Rattle.bounds_plan.proofs.Runs.{kept-taking_turn}
-use Rattle.bounds_plan.proofs.Worlds.{fewer, longer, judged}
+use Rattle.bounds_plan.proofs.Worlds.{fewer, longer, judged, only, pieces}
 use Rattle.bounds_plan.proofs.RootedCalls.{rooted-passed-on}
 use Rattle.bounds_plan.proofs.laws.outside_can_keep_to_laws.Goals as goal
 
@@ -15,3 +15,9 @@ returns-clause-judged c = λ own h g args w log. kept-taking_turn Judged judged 
 
 pub returns-clause-roots : goal.returns-clause-roots
 returns-clause-roots c = rooted-passed-on
+
+pub returns-clause-writes : goal.returns-clause-writes
+returns-clause-writes c = λ own h g args w log. kept-taking_turn OnlyWrites only w log _ (λ u. h g args u log)
+
+pub returns-clause-pieces : goal.returns-clause-pieces
+returns-clause-pieces c event = λ own h g args w log. kept-taking_turn (InPieces event) (pieces event) w log _ (λ u. h g args u log)
