@@ -100,7 +100,7 @@ turns_same : (n : ℕ) (w : World) (log : Log) (go : World → Answer) (fat : Wo
 turns_same zero w log go fat h = refl
 turns_same (suc n) w log go fat h = h (with_turns n w)
 
-taking_same : (w : World) (log : Log) (go : World → Answer) (fat : World → Outcome) → ((u : World) → fat u ≡ outcome_of (go u)) → fat_taking_turn w fat ≡ outcome_of (taking_turn w log go)
+pub taking_same : (w : World) (log : Log) (go : World → Answer) (fat : World → Outcome) → ((u : World) → fat u ≡ outcome_of (go u)) → fat_taking_turn w fat ≡ outcome_of (taking_turn w log go)
 taking_same w log go fat h = turns_same w.turns w log go fat h
 
 full_same : (full : Bool) (w : World) (log : Log) (a : Answer) (o : Outcome) → o ≡ outcome_of a → cond full (StopsAt StackOver w) o ≡ outcome_of (cond full (Stops StackOver w log) a)

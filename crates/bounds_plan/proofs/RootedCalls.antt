@@ -262,10 +262,10 @@ rooted-body start names below f framed fits args w l r h =
 
 -- ---- calls
 
-same-store : (start : List BoundsPair) (w u : World) (l : Log) → ((g : ℕ) → u.store.kept g ≡ w.store.kept g) → AllRooted start w l → AllRooted start u l
+pub same-store : (start : List BoundsPair) (w u : World) (l : Log) → ((g : ℕ) → u.store.kept g ≡ w.store.kept g) → AllRooted start w l → AllRooted start u l
 same-store start w u l e r = rooted-later start w u l l (grows-same l) refl refl e r
 
-turn-taken : (start : List BoundsPair) (n : ℕ) (w base : World) (l before : Log) (go : World → Answer) → LogGrows before l → AllRooted start w l → ((n : ℕ) → LeavesRooted start base before (go (with_turns n w))) → LeavesRooted start base before (world_turn_from n w l go)
+pub turn-taken : (start : List BoundsPair) (n : ℕ) (w base : World) (l before : Log) (go : World → Answer) → LogGrows before l → AllRooted start w l → ((n : ℕ) → LeavesRooted start base before (go (with_turns n w))) → LeavesRooted start base before (world_turn_from n w l go)
 turn-taken start zero w base l before go g r h = (r, g)
 turn-taken start (suc n) w base l before go g r h = h n
 

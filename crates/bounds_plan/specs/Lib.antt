@@ -6,6 +6,7 @@ pub mod Expressions
 pub mod Follows
 pub mod Functions
 pub mod Laws
+pub mod Outside
 pub mod Roots
 pub mod State
 pub mod Statements

@@ -13,6 +13,7 @@ ghost use Rattle.bounds_plan.specs.Expressions.{CalleeOfC, Names};
 ghost use Rattle.bounds_plan.specs.Follows.{FitsStatement, values_of, outcome_of, DoesSame, StandsSame, Holds, body_run_by_steps, body_run_in_c};
 ghost use Rattle.bounds_plan.specs.Functions.{FunctionOfC, Linked, body_run, calls, program_run};
 ghost use Rattle.bounds_plan.specs.Compiled.{FitsFunction, function_run_by_steps, all_compiled, parameters_of, FitsProgram, OutsideSame};
+ghost use Rattle.bounds_plan.specs.Outside.{lends, lends_by_steps, lending};
 ghost use Rattle.bounds_plan.specs.Roots.{AllRooted, RootedCalls, RootedOutside, AllMade};
 ghost use Rattle.fat_ir.specs.Laws.{LacksLabel, passes_on as passes_on_by_steps};
 ghost use Rattle.bounds_plan.specs.Core.{NumberExpr, PointerExpr, Statement};
@@ -101,4 +102,14 @@ pub fn compiled_programs_do_what_they_mean()
 /// function of its own number with its own arguments.
 pub fn outside_can_do_the_same()
     ensures { (takes : ℕ → ℕ) → OutsideSame takes takes passes_on passes_on_by_steps }
+{}
+
+/// Code outside of a program can keep to what is asked of it, and hand over pointers with bounds of its own, store them and
+/// widen those that it gives back: for one, a function that takes a turn, keeps bounds at an address, calls the C function of
+/// its own number with that pointer, and gives back what comes from there with full bounds.
+pub fn outside_can_hand_over_pointers()
+    ensures same { (takes takes_outside : ℕ → ℕ) → ((f : ℕ) → takes f ≡ 1) → (at value : ℕ) (b : Bounds) → OutsideSame takes takes_outside (lends at value b) (lends_by_steps at value b) }
+    ensures turns { (at value : ℕ) (b : Bounds) → LeftOutside NoMoreTurns (lends at value b) }
+    ensures pieces { (at value : ℕ) (b : Bounds) → LeftOutside (InPieces (lending at value b)) (lends at value b) }
+    ensures roots { (start : List Bounds) (at value : ℕ) (b : Bounds) → RootedOutside start (lends at value b) }
 {}
