@@ -1,15 +1,15 @@
 -- The steps of a function do what the function does, and those of a program what the program does.
 use Rattle.std.proofs.Common.{ℕ, zero, suc, ◌+◌, ◌-◌, ◌%◌, ◌≡◌, ◌≤◌, ◌<◌, refl, sym, ap, ◌∙◌, subst, length, List, [], ◌∷◌, ◌++◌, append_assoc, Bool, true, false, cond, nat_lt, arith}
-use Rattle.std.specs.Prelude.{slice_index_or}
+use Rattle.std.specs.Prelude.{◌≢◌, slice_index_or}
 use Rattle.std.proofs.lemmas.Bool.Decides.{nat_tests}
 use Rattle.std.proofs.lemmas.List.{get_or_append_left}
 use Rattle.mx_base.specs.Bounds.{full_bounds}
 use Rattle.mx_base.specs.Regions.{data_stack}
 use Rattle.mx_base.specs.StopOfC.{StackOver, Exit}
-use Rattle.mx_base.specs.World.{World, Log, FullBy, UnsetPointer}
+use Rattle.mx_base.specs.World.{World, Log, empty_log, FullBy, UnsetPointer}
 use Rattle.fat_ir.specs.declared.step.FatStep.TheVariants as s
 use Rattle.fat_ir.specs.Values.{Nothing, Values}
-use Rattle.fat_ir.specs.Calls.{Callee, Outcome, Comes as ComesBack, Stops as StopsAt, with_turns, with_data_sp, turn_from as fat_turn_from, taking_turn as fat_taking_turn, entering as fat_entering, returning as fat_returning}
+use Rattle.fat_ir.specs.Calls.{Callee, Outcome, Comes as ComesBack, Stops as StopsAt, Stuck, with_turns, with_data_sp, turn_from as fat_turn_from, taking_turn as fat_taking_turn, entering as fat_entering, returning as fat_returning}
 use Rattle.fat_ir.specs.Step.{Symbols, State as T, Next, To, Reached}
 use Rattle.fat_ir.specs.Run.{pass, and_then, followed, run_to}
 use Rattle.fat_ir.specs.Functions.{Target, OfC, Outside, unset as unset_value, values_at_entry, call_of as fat_call_of, symbols_of, calls as fat_calls, exited as fat_exited, program_run as fat_program_run, most_depth}
@@ -154,6 +154,30 @@ pub programs_follow : (takes_outside : ℕ → ℕ) (program : ℕ → Linked) �
     → (name : ℕ → ℕ) (main : ℕ) → parameters_of program main ≡ 0 → (w : World) (log : Log) → fat_program_run (all_compiled name program) by_steps main w ≡ outcome_of (program_run program outside main w log)
 programs_follow takes_outside program fits outside by_steps out few name main none w log =
     ap fat_exited (calls_follow takes_outside program fits outside by_steps out few name most_depth main [] w log (sym none)) ∙ exited_cases (calls program outside most_depth main [] w log)
+
+-- ---- what steps never come to, and what decides nothing
+
+never_stuck : (a : Answer) → outcome_of a ≢ Stuck
+never_stuck (Comes v w log) e = cc
+never_stuck (Stops why w log) e = cc
+
+pub functions_not_stuck : (names : Names) (symbols : Symbols) (takes : ℕ → ℕ) → StandsSame names symbols → DoesSame takes names.call symbols.call → LeftByCalls NoMoreTurns names.call
+    → (f : FunctionOfC) → FitsFunction takes f → (name : ℕ) (args : List Passed) → length args ≡ length f.parameters → (w : World)
+    → function_run_by_steps symbols (fat_function name f) (fat_parameters f.parameters) (values_of args) w ≢ Stuck
+functions_not_stuck names symbols takes same_place same few f fits name args count w e =
+    never_stuck (body_run names f args w empty_log) (sym (functions_follow names symbols takes same_place same few f fits name args count w empty_log) ∙ e)
+
+values-length : (vs : List Passed) → length (values_of vs) ≡ length vs
+values-length [] = refl
+values-length (v ∷ vs) = ap suc (values-length vs)
+
+pub log_apart : (takes_outside : ℕ → ℕ) (program : ℕ → Linked) → FitsProgram takes_outside program → (outside : CalleeOfC → CalleeOfC) (by_steps : Callee → Callee)
+    → OutsideSame (parameters_of program) takes_outside outside by_steps → LeftOutside NoMoreTurns outside
+    → (depth f : ℕ) (args others : List Passed) → length args ≡ parameters_of program f → values_of args ≡ values_of others → (w : World) (l m : Log) → outcome_of (calls program outside depth f args w l) ≡ outcome_of (calls program outside depth f others w m)
+log_apart takes_outside program fits outside by_steps out few depth f args others count same w l m =
+    let fat = fat_calls (all_compiled (λ n. n) program) by_steps depth in
+    let count_of : length others ≡ parameters_of program f = sym (values-length others) ∙ ap length (sym same) ∙ values-length args ∙ count in
+    sym (calls_follow takes_outside program fits outside by_steps out few (λ n. n) depth f args w l count) ∙ ap (λ vs. fat f vs w) same ∙ calls_follow takes_outside program fits outside by_steps out few (λ n. n) depth f others w m count_of
 
 -- ---- what is outside
 

@@ -1,10 +1,10 @@
 //! Laws of the meaning of C. Each function does nothing, and its contract is the law.
 
-ghost use Rattle.std.specs.Prelude.{◌≡◌, ◌≤◌, ℕ, Bool, List, length};
+ghost use Rattle.std.specs.Prelude.{◌≡◌, ◌≢◌, ◌≤◌, ℕ, Bool, List, length};
 ghost use Rattle.mx_base.specs.declared.limits.Bounds.{Bounds};
 ghost use Rattle.mx_base.specs.Memory.{Bytes};
 ghost use Rattle.mx_base.specs.World.{World, Log, world_at_start, empty_log};
-ghost use Rattle.fat_ir.specs.Calls.{Callee};
+ghost use Rattle.fat_ir.specs.Calls.{Callee, Stuck};
 ghost use Rattle.fat_ir.specs.Functions.{calls as calls_by_steps, program_run as program_run_by_steps};
 ghost use Rattle.fat_ir.specs.Values.{Values};
 ghost use Rattle.fat_ir.specs.Step.{Symbols};
@@ -84,9 +84,11 @@ pub fn compiled_bodies_do_what_they_mean()
 
 /// The steps of a function do what the function does, from the arrival of its arguments to its end, for every meaning of the
 /// functions that it calls, in every world and at every bound on turns: they come back with the same value and bounds, or
-/// stop for the same reason at the same place, and leave the same world. It gets as many arguments as it has parameters.
+/// stop for the same reason at the same place, and leave the same world. So they never read a value that was not written. The
+/// function gets as many arguments as it has parameters.
 pub fn compiled_functions_do_what_they_mean()
-    ensures { (names : Names) (symbols : Symbols) (takes : ℕ → ℕ) → StandsSame names symbols → DoesSame takes names.call symbols.call → LeftByCalls NoMoreTurns names.call → (f : FunctionOfC) → FitsFunction takes f → (name : ℕ) (args : List Passed) → length args ≡ length f.parameters → (w : World) (log : Log) → function_run_by_steps symbols (fat_function name f) (fat_parameters f.parameters) (values_of args) w ≡ outcome_of (body_run names f args w log) }
+    ensures same { (names : Names) (symbols : Symbols) (takes : ℕ → ℕ) → StandsSame names symbols → DoesSame takes names.call symbols.call → LeftByCalls NoMoreTurns names.call → (f : FunctionOfC) → FitsFunction takes f → (name : ℕ) (args : List Passed) → length args ≡ length f.parameters → (w : World) (log : Log) → function_run_by_steps symbols (fat_function name f) (fat_parameters f.parameters) (values_of args) w ≡ outcome_of (body_run names f args w log) }
+    ensures never_stuck { (names : Names) (symbols : Symbols) (takes : ℕ → ℕ) → StandsSame names symbols → DoesSame takes names.call symbols.call → LeftByCalls NoMoreTurns names.call → (f : FunctionOfC) → FitsFunction takes f → (name : ℕ) (args : List Passed) → length args ≡ length f.parameters → (w : World) → function_run_by_steps symbols (fat_function name f) (fat_parameters f.parameters) (values_of args) w ≢ Stuck }
 {}
 
 /// The steps of a program's functions do what the functions do, called with as many arguments as they take, wherever so many
@@ -96,6 +98,12 @@ pub fn compiled_functions_do_what_they_mean()
 pub fn compiled_programs_do_what_they_mean()
     ensures calls { (takes_outside : ℕ → ℕ) (program : ℕ → Linked) → FitsProgram takes_outside program → (outside : CalleeOfC → CalleeOfC) (by_steps : Callee → Callee) → OutsideSame (parameters_of program) takes_outside outside by_steps → LeftOutside NoMoreTurns outside → (name : ℕ → ℕ) (depth : ℕ) → DoesSame (parameters_of program) (calls program outside depth) (calls_by_steps (all_compiled name program) by_steps depth) }
     ensures ends { (takes_outside : ℕ → ℕ) (program : ℕ → Linked) → FitsProgram takes_outside program → (outside : CalleeOfC → CalleeOfC) (by_steps : Callee → Callee) → OutsideSame (parameters_of program) takes_outside outside by_steps → LeftOutside NoMoreTurns outside → (name : ℕ → ℕ) (main : ℕ) → parameters_of program main ≡ 0 → (w : World) (log : Log) → program_run_by_steps (all_compiled name program) by_steps main w ≡ outcome_of (program_run program outside main w log) }
+{}
+
+/// The log decides nothing: neither what was made, nor the causes of full bounds, nor the roots, nor the counters. A call that
+/// gets the same values in the same world ends in the same way and leaves the same world.
+pub fn logs_decide_nothing()
+    ensures { (takes_outside : ℕ → ℕ) (program : ℕ → Linked) → FitsProgram takes_outside program → (outside : CalleeOfC → CalleeOfC) (by_steps : Callee → Callee) → OutsideSame (parameters_of program) takes_outside outside by_steps → LeftOutside NoMoreTurns outside → (depth f : ℕ) (args others : List Passed) → length args ≡ parameters_of program f → values_of args ≡ values_of others → (w : World) (l m : Log) → outcome_of (calls program outside depth f args w l) ≡ outcome_of (calls program outside depth f others w m) }
 {}
 
 /// What is outside of a program can do the same with both meanings of its functions: for one, a function that calls the C
