@@ -12,6 +12,7 @@ mod RootedCalls
 mod Roots
 mod Runs
 mod Sim
+mod Sorts
 mod Whole
 mod Words
 mod Worlds

@@ -8,6 +8,7 @@ pub mod Functions
 pub mod Laws
 pub mod Outside
 pub mod Roots
+pub mod Sorts
 pub mod State
 pub mod Statements
 pub mod Worked

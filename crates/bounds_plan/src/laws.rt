@@ -1,6 +1,6 @@
 //! Laws of the meaning of C. Each function does nothing, and its contract is the law.
 
-ghost use Rattle.std.specs.Prelude.{◌≡◌, ◌≢◌, ◌≤◌, ℕ, Bool, List, length};
+ghost use Rattle.std.specs.Prelude.{◌≡◌, ◌≢◌, ◌≤◌, ℕ, ◌+◌, Bool, List, length};
 ghost use Rattle.mx_base.specs.declared.limits.Bounds.{Bounds};
 ghost use Rattle.mx_base.specs.Memory.{Bytes};
 ghost use Rattle.mx_base.specs.World.{World, Log, world_at_start, empty_log};
@@ -13,11 +13,12 @@ ghost use Rattle.bounds_plan.specs.Expressions.{CalleeOfC, Names};
 ghost use Rattle.bounds_plan.specs.Follows.{FitsStatement, values_of, outcome_of, DoesSame, StandsSame, Holds, body_run_by_steps, body_run_in_c};
 ghost use Rattle.bounds_plan.specs.Functions.{FunctionOfC, Linked, body_run, calls, program_run};
 ghost use Rattle.bounds_plan.specs.Compiled.{FitsFunction, function_run_by_steps, all_compiled, parameters_of, FitsProgram, OutsideSame};
+ghost use Rattle.bounds_plan.specs.Sorts.{pairs_of, AllNameRight, NumberIn, BoundsIn};
 ghost use Rattle.bounds_plan.specs.Outside.{lends, lends_by_steps, lending};
 ghost use Rattle.bounds_plan.specs.Roots.{AllRooted, RootedCalls, RootedOutside, AllMade};
 ghost use Rattle.fat_ir.specs.Laws.{LacksLabel, passes_on as passes_on_by_steps};
 ghost use Rattle.bounds_plan.specs.Core.{NumberExpr, PointerExpr, Statement};
-ghost use Rattle.bounds_plan.specs.Code.{labels, labels_ptr, labels_of, code, code_ptr, code_of, fat_parameters, fat_function};
+ghost use Rattle.bounds_plan.specs.Code.{labels, labels_ptr, labels_of, code, code_ptr, code_of, fat_parameters, fat_function, most_pairs};
 ghost use Rattle.bounds_plan.specs.Laws.{IsOutside, LeftByCalls, LeftOutside, NoMoreTurns, OutputGrows, Judged, OnlyWrites, Events, InPieces, CopiesWhole, passes_on};
 
 /// No run of a program leaves more turns than there were, if nothing outside of it does.
@@ -104,6 +105,14 @@ pub fn compiled_programs_do_what_they_mean()
 /// gets the same values in the same world ends in the same way and leaves the same world.
 pub fn logs_decide_nothing()
     ensures { (takes_outside : ℕ → ℕ) (program : ℕ → Linked) → FitsProgram takes_outside program → (outside : CalleeOfC → CalleeOfC) (by_steps : Callee → Callee) → OutsideSame (parameters_of program) takes_outside outside by_steps → LeftOutside NoMoreTurns outside → (depth f : ℕ) (args others : List Passed) → length args ≡ parameters_of program f → values_of args ≡ values_of others → (w : World) (l m : Log) → outcome_of (calls program outside depth f args w l) ≡ outcome_of (calls program outside depth f others w m) }
+{}
+
+/// The steps of a function name no values but those that it has, and each as what the function's numbering says that it is: a
+/// number or bounds. Its tree needs no more pairs of temporaries than functions have beside those in which parameters arrive.
+pub fn steps_name_values_of_their_sort()
+    ensures sorts { (takes : ℕ → ℕ) (f : FunctionOfC) → FitsFunction takes f → pairs_of f.body ≤ most_pairs → (name : ℕ) → AllNameRight (NumberIn (fat_function name f)) (BoundsIn (fat_function name f)) (fat_function name f).steps }
+    ensures numbered { (f : FunctionOfC) (name : ℕ) → length (fat_function name f).bounds ≡ (fat_function name f).private + (fat_function name f).temps }
+    ensures arrived { (f : FunctionOfC) (name : ℕ) → (fat_function name f).arrived ≤ (fat_function name f).temps }
 {}
 
 /// What is outside of a program can do the same with both meanings of its functions: for one, a function that calls the C
