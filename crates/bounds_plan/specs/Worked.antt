@@ -11,11 +11,12 @@ use Rattle.mx_base.specs.World.{Access, world_at_start, Log, empty_log}
 use Rattle.narrowing.specs.Member.{rule_of}
 use Rattle.fat_ir.specs.Step.{ObjectAt}
 use Rattle.fat_ir.specs.Calls.{Outcome, Comes as ComesBack, Stops as StopsAt, Stuck, Callee}
-use Rattle.fat_ir.specs.Functions.{OfC, Linked as FatLinked, calls as steps_calls, exited as exited_steps}
+use Rattle.fat_ir.specs.Functions.{OfC, Outside, Linked as FatLinked, calls as steps_calls, exited as exited_steps}
 use Rattle.bounds_plan.specs.Code.{fat_function, fat_parameters}
-use Rattle.bounds_plan.specs.Core.{NumberExpr, Word, Variable, Assign, Operate, Compare, Convert, AsNumber, Load, Store, Update, Call, Serve, Ask, PointerExpr, FromInteger, Object, VariablePtr, AssignPtr, Member, Element, LoadPtr, StorePtr, Alloc, InitBounds, BoundOf, NoMore, WithNumber, OfNumber, OfPointer, CopyStruct, Statement, Skip, Do, Then, If, For, ReturnNumber}
+use Rattle.bounds_plan.specs.Core.{NumberExpr, Word, Variable, Assign, Operate, Compare, Convert, AsNumber, Load, Store, Update, Call, Serve, Ask, PointerExpr, FromInteger, Object, VariablePtr, AssignPtr, Member, Element, InFrame, LoadPtr, StorePtr, Alloc, InitBounds, BoundOf, NoMore, WithNumber, OfNumber, OfPointer, CopyStruct, Statement, Skip, Do, Then, If, DoWhile, For, Continue, ReturnNumber}
 use Rattle.bounds_plan.specs.Expressions.{Answer, Comes, Stops, CalleeOfC}
-use Rattle.bounds_plan.specs.Functions.{Private, FunctionOfC, Linked, calls, exited}
+use Rattle.bounds_plan.specs.Functions.{Private, Framed, FunctionOfC, Linked, calls, exited}
+use Rattle.bounds_plan.specs.Outside.{lends, lends_by_steps}
 
 -- ---- what is told of a run that stopped: the megabytes whose bounds were asked for too
 
@@ -260,3 +261,58 @@ frees_twice = in_order (
     ∷ print (Ask 2)
     ∷ ends_with_0
     ∷ [])
+
+-- ---- int main(void){ int i; i=0; do { i++; if(i==2) continue; print(i); } while(i<3); return 0; }, i being value 2
+
+abbrev pub skips_2 : Statement
+skips_2 = in_order (
+    does (Assign 2 (Word 0))
+    ∷ DoWhile (in_order (
+    does (Update 2 I32 Plus I32 (Word 1) true)
+    ∷ If (Compare Equal I32 (Variable 2) (Word 2)) Continue Skip
+    ∷ print (Variable 2)
+    ∷ [])) (Compare Below I32 (Variable 2) (Word 3))
+    ∷ ends_with_0
+    ∷ [])
+
+-- ---- int f(int n){ return *&n; }
+-- int main(void){ return f(N); }
+
+abbrev pub reads_parameter : FunctionOfC
+reads_parameter = record {
+  parameters = Framed 0 (Some I32) ∷ [];
+  privates = [];
+  variables = record { offset = 0; size = 4 } ∷ [];
+  frame = 16;
+  body = ReturnNumber (Load I32 (at 1 19) (InFrame 0 4));
+}
+
+abbrev pub reading : (n f : ℕ) → Linked
+reading n f = linked first_object (if f == 0 then reads_parameter else function [] (ReturnNumber (Call 0 (WithNumber (Word n) NoMore))))
+
+abbrev pub run_reading : (n turns : ℕ) → Option Told
+run_reading n turns = told (exited (calls (reading n) nothing_outside 4096 1 [] (world_at_start no_bytes [] turns) empty_log))
+
+abbrev pub run_reading_steps : (n turns : ℕ) → Option Told
+run_reading_steps n turns = told_of_steps (exited_steps (steps_calls (λ f. compiled (reading n f)) no_steps_outside 4096 1 [] (world_at_start no_bytes [] turns)))
+
+-- ---- void lend(void); void f(char *p){ p[N]=1; }
+-- int main(void){ lend(); return 0; }, where lend is outside: it keeps bounds for a pointer to 4 bytes, and calls f with it
+
+abbrev pub writes_lent : (n : ℕ) → FunctionOfC
+writes_lent n = record {
+  parameters = Private 0 None ∷ [];
+  privates = false ∷ true ∷ [];
+  variables = [];
+  frame = 0;
+  body = does (Store I8 (at 1 39) (Element false 1 (VariablePtr 0) (Word n)) (Convert I8 (Word 1)));
+}
+
+abbrev pub borrowing : (n f : ℕ) → Linked
+borrowing n f = record (linked first_object (if f == 0 then writes_lent n else function [] (Then (does (Call 2 NoMore)) ends_with_0))) { targets = λ s. if s == 2 then Outside 0 else OfC s }
+
+abbrev pub run_borrowing : (n turns : ℕ) → Option Told
+run_borrowing n turns = told (exited (calls (borrowing n) (lends 0x2000_0010 0x2000_0000 (pair 0x2000_0000 0x2000_0003)) 4096 1 [] (world_at_start no_bytes [] turns) empty_log))
+
+abbrev pub run_borrowing_steps : (n turns : ℕ) → Option Told
+run_borrowing_steps n turns = told_of_steps (exited_steps (steps_calls (λ f. compiled (borrowing n f)) (lends_by_steps 0x2000_0010 0x2000_0000 (pair 0x2000_0000 0x2000_0003)) 4096 1 [] (world_at_start no_bytes [] turns)))

@@ -3,7 +3,7 @@
 ghost use Rattle.std.specs.Prelude.{◌≡◌, Bool, true, false, [], ◌∷◌, codes};
 ghost use Rattle.mx_base.specs.Bounds.{bounds_at};
 ghost use Rattle.mx_base.specs.StopOfC.{Exit, Bounds, OutOfTurns, Divide, StackOver, Unmapped, AtPlace};
-ghost use Rattle.bounds_plan.specs.Worked.{ends, read, written, pair, at, run_alone, run_steps, first_object, array_and_pointer, pairs_of_pointers, prints_7, writes_element, reads_past_end, fills_block, keeps_pointer, spreads_pointers, reads_last_byte, prints_members, copies_pointers, counts, run_descent, run_descent_steps, divides_by_0, frees_twice};
+ghost use Rattle.bounds_plan.specs.Worked.{ends, read, written, pair, at, run_alone, run_steps, first_object, array_and_pointer, pairs_of_pointers, prints_7, writes_element, reads_past_end, fills_block, keeps_pointer, spreads_pointers, reads_last_byte, prints_members, copies_pointers, counts, run_descent, run_descent_steps, divides_by_0, frees_twice, skips_2, run_reading, run_reading_steps, run_borrowing, run_borrowing_steps};
 
 /// How small programs end: by which stop, with which output, with how many turns left, after which accesses, and with
 /// which megabytes asked for bounds. The sources stand beside their core trees.
@@ -25,6 +25,11 @@ pub fn small_programs_mean_so()
     ensures too_deep { run_descent 2 3 100 ≡ ends StackOver [] 96 [] [] }
     ensures deep { run_descent 1 3 100 ≡ ends (Exit 0) [] 94 [] [] }
     ensures division { run_alone first_object [] divides_by_0 10 ≡ ends Divide [] 9 [] [] }
+    ensures skipped { run_alone first_object [] skips_2 10 ≡ ends (Exit 0) (codes "1\n3\n") 6 [] [] }
+    ensures skipped_few_turns { run_alone first_object [] skips_2 2 ≡ ends OutOfTurns (codes "1\n") 0 [] [] }
+    ensures parameter { run_reading 7 10 ≡ ends (Exit 7) [] 6 (written 0x53ff_fff0 4 ∷ read 0x53ff_fff0 4 ∷ []) [] }
+    ensures lent { run_borrowing 3 10 ≡ ends (Exit 0) [] 5 (written 0x2000_0003 1 ∷ []) (0x200 ∷ []) }
+    ensures lent_outside { run_borrowing 4 10 ≡ ends (Bounds 0x2000_0004 (pair 0x2000_0000 0x2000_0003) (AtPlace (at 1 39))) [] 7 [] (0x200 ∷ []) }
     ensures freed_twice { run_alone first_object [] frees_twice 10 ≡ ends (Exit 0) (codes "0\n-1\n-1\n") 8 [] [] }
 {}
 
@@ -47,5 +52,10 @@ pub fn compiled_programs_run_so()
     ensures too_deep { run_descent_steps 2 3 100 ≡ run_descent 2 3 100 }
     ensures deep { run_descent_steps 1 3 100 ≡ run_descent 1 3 100 }
     ensures division { run_steps first_object divides_by_0 10 ≡ run_alone first_object [] divides_by_0 10 }
+    ensures skipped { run_steps first_object skips_2 10 ≡ run_alone first_object [] skips_2 10 }
+    ensures skipped_few_turns { run_steps first_object skips_2 2 ≡ run_alone first_object [] skips_2 2 }
+    ensures parameter { run_reading_steps 7 10 ≡ run_reading 7 10 }
+    ensures lent { run_borrowing_steps 3 10 ≡ run_borrowing 3 10 }
+    ensures lent_outside { run_borrowing_steps 4 10 ≡ run_borrowing 4 10 }
     ensures freed_twice { run_steps first_object frees_twice 10 ≡ run_alone first_object [] frees_twice 10 }
 {}
