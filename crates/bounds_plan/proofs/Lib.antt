@@ -4,6 +4,7 @@ mod Entry
 mod Exprs
 mod Flows
 mod Fresh
+mod Once
 mod Outside
 mod Parts
 mod Pieces

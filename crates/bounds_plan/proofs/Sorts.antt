@@ -4,6 +4,7 @@ use Rattle.mx_base.specs.declared.numbers.IntKind.{IntKind}
 use Rattle.narrowing.specs.declared.member.Rule.{Rule}
 use Rattle.narrowing.specs.declared.member.Rule.TheVariants.{Keep, Meet}
 use Rattle.fat_ir.specs.declared.step.FatStep.{FatStep}
+use Rattle.fat_ir.specs.declared.step.FatStep.TheVariants as s
 use Rattle.bounds_plan.specs.Core.{NumberExpr, Word, Variable, Assign, Operate, Compare, Convert, AsNumber, Load, Store, Update, UpdateAt, And, Or, Choose, Call, Serve, Ask, PointerExpr, Null, FromInteger, Function, Object, InFrame, VariablePtr, AssignPtr, Member, Element, LoadPtr, StorePtr, Advance, AdvanceAt, ChoosePtr, CallPtr, Alloc, SetBounds, NarrowBounds, CopyBounds, InitBounds, BoundOf, Arguments, NoMore, WithNumber, WithPointer, Scalar, Effect, Nothing, OfNumber as ForNumber, OfPointer as ForPointer, CopyStruct, Statement, Skip, Do, Then, If, While, DoWhile, For, Break, Continue, Return, ReturnNumber, ReturnPtr}
 use Rattle.bounds_plan.specs.Code.{labels, labels_ptr, labels_of, before_or_after, arguments_at, ruled, code, code_ptr, codes, copied, copied_all, code_effect, code_of, arrivals, arrived, in_turn, most_pairs, fat_function}
 use Rattle.bounds_plan.specs.Follows.{Fits, FitsPtr, FitsAll, FitsEffect, FitsStatement, IsNumber, IsPointer}
@@ -289,7 +290,7 @@ module _ (private : ℕ) (sorts : ℕ → Bool) (takes : ℕ → ℕ) (N B : ℕ
       let n = pairs_of (If test a b) in
       let x = (first d n (let h = some test in omega (arith, h)) t).0 in
       both (code test d (l + 2)) _ (right test d (l + 2) f.0 (fewer d n (pairs test) (omega arith) t))
-      (x, both (code_of b d (l + 2 + labels test) lb lc) _ (right_of b d (l + 2 + labels test) lb lc f.2 (fewer d n (pairs_of b) (omega arith) t)) (tt, (tt, both (code_of a d (l + 2 + labels test + labels_of b) lb lc) _ (right_of a d (l + 2 + labels test + labels_of b) lb lc f.1 (fewer d n (pairs_of a) (omega arith) t)) (tt, tt))))
+      (x, both (code_of b d (l + 2 + labels test) lb lc) (s.Jump (l + 1) ∷ s.Label l ∷ (code_of a d (l + 2 + labels test + labels_of b) lb lc ++ (s.Label (l + 1) ∷ []))) (right_of b d (l + 2 + labels test) lb lc f.2 (fewer d n (pairs_of b) (omega arith) t)) (tt, (tt, both (code_of a d (l + 2 + labels test + labels_of b) lb lc) _ (right_of a d (l + 2 + labels test + labels_of b) lb lc f.1 (fewer d n (pairs_of a) (omega arith) t)) (tt, tt))))
   right_of (While test body) d l lb lc f t =
       let n = pairs_of (While test body) in
       let x = (first d n (let h = some test in omega (arith, h)) t).0 in

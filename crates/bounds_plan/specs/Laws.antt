@@ -1,10 +1,12 @@
 -- What the laws of the meaning of C say.
-use Rattle.std.specs.Prelude.{◌≡◌, ◌≢◌, ◌≤◌, ℕ, ◌+◌, true, false, Option, None, Some, List, [], ◌∷◌, ◌++◌}
+use Rattle.std.specs.Prelude.{◌≡◌, ◌≢◌, ◌≤◌, ℕ, ◌+◌, ◌==◌, if◌then◌else◌, true, false, Option, None, Some, List, [], ◌∷◌, ◌++◌}
 use Rattle.mx_base.specs.declared.numbers.IntKind.{IntKind}
 use Rattle.mx_base.specs.Numbers.{size_of}
 use Rattle.mx_base.specs.Bounds.{is_outside}
 use Rattle.mx_base.specs.BoundsStore.{granule}
 use Rattle.mx_base.specs.World.{World, Access, Rooted, Traced, Log}
+use Rattle.fat_ir.specs.declared.step.FatStep.{FatStep}
+use Rattle.fat_ir.specs.declared.step.FatStep.TheVariants.{Label, Jump, JumpIf}
 use Rattle.fat_ir.specs.Laws.{NoneRefused, NotWritten}
 use Rattle.bounds_plan.specs.Core.{Scalar, Effect, Nothing, OfNumber, OfPointer, CopyStruct, Statement, Skip, Do, Then, If, While, DoWhile, For, Break, Continue, Return, ReturnNumber, ReturnPtr}
 use Rattle.bounds_plan.specs.State.{Passed}
@@ -138,3 +140,16 @@ CopiesWhole program = (f : ℕ) → OfCopies LieInside (program f).fun.body
 -- the label k is none of the n labels from l on
 pub record IsOutside (k l n : ℕ) : Type 0 where
   pub is : l ≤ k → l + n ≤ k
+
+-- how often a label stands in a list of steps
+abbrev pub times : ℕ → List FatStep → ℕ
+times k [] = 0
+times k (Label n ∷ rest) = (if k == n then 1 else 0) + times k rest
+times k (_ ∷ rest) = times k rest
+
+-- a fact of each label to which a list of steps jumps
+abbrev pub JumpsTo : (ℕ → Type 0) → List FatStep → Type 0
+JumpsTo fact [] = Unit {0}
+JumpsTo fact (Jump n ∷ rest) = fact n × JumpsTo fact rest
+JumpsTo fact (JumpIf from n ∷ rest) = fact n × JumpsTo fact rest
+JumpsTo fact (_ ∷ rest) = JumpsTo fact rest

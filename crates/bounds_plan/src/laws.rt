@@ -19,7 +19,7 @@ ghost use Rattle.bounds_plan.specs.Roots.{AllRooted, RootedCalls, RootedOutside,
 ghost use Rattle.fat_ir.specs.Laws.{LacksLabel, passes_on as passes_on_by_steps};
 ghost use Rattle.bounds_plan.specs.Core.{NumberExpr, PointerExpr, Statement};
 ghost use Rattle.bounds_plan.specs.Code.{labels, labels_ptr, labels_of, code, code_ptr, code_of, fat_parameters, fat_function, most_pairs};
-ghost use Rattle.bounds_plan.specs.Laws.{IsOutside, LeftByCalls, LeftOutside, NoMoreTurns, OutputGrows, Judged, OnlyWrites, Events, InPieces, CopiesWhole, passes_on};
+ghost use Rattle.bounds_plan.specs.Laws.{IsOutside, times, JumpsTo, LeftByCalls, LeftOutside, NoMoreTurns, OutputGrows, Judged, OnlyWrites, Events, InPieces, CopiesWhole, passes_on};
 
 /// No run of a program leaves more turns than there were, if nothing outside of it does.
 pub fn turns_never_grow()
@@ -73,6 +73,11 @@ pub fn code_has_its_own_labels()
     ensures numbers { (e : NumberExpr) (d l k : ℕ) → IsOutside k l (labels e) → LacksLabel k (code e d l) }
     ensures pointers { (e : PointerExpr) (d l k : ℕ) → IsOutside k l (labels_ptr e) → LacksLabel k (code_ptr e d l) }
     ensures statements { (s : Statement) (d l lb lc k : ℕ) → IsOutside k l (labels_of s) → LacksLabel k (code_of s d l lb lc) }
+{}
+
+/// Each label to which a step of a function jumps stands once among its steps.
+pub fn jumps_find_their_labels()
+    ensures { (f : FunctionOfC) (name : ℕ) → JumpsTo (λ k. times k (fat_function name f).steps ≡ 1) (fat_function name f).steps }
 {}
 
 /// The steps of a function's body do what the body does, for every meaning of the functions that it calls, in every world
