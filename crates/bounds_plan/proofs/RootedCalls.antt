@@ -1,5 +1,5 @@
 -- Statements, functions and programs: all bounds keep their roots.
-use Rattle.std.proofs.Common.{ℕ, zero, suc, ◌+◌, ◌-◌, ◌≡◌, refl, ◌∙◌, subst, cond, nat_lt, List, [], ◌∷◌, ◌++◌, Option, Some, None, Bool, true, false}
+use Rattle.std.proofs.Common.{sym, ap, ℕ, zero, suc, ◌+◌, ◌-◌, ◌≡◌, refl, ◌∙◌, subst, cond, nat_lt, List, [], ◌∷◌, ◌++◌, Option, Some, None, Bool, true, false}
 use Rattle.std.specs.Prelude.{slice_index_or}
 use Rattle.std.specs.List.{list_any}
 use Rattle.mx_base.specs.declared.limits.Bounds.{Bounds as BoundsPair}
@@ -10,7 +10,7 @@ use Rattle.mx_base.specs.Regions.{data_stack}
 use Rattle.mx_base.specs.StopOfC.{OutOfTurns, StackOver}
 use Rattle.mx_base.specs.Memory.{Bytes}
 use Rattle.mx_base.specs.BoundsStore.{Kept}
-use Rattle.mx_base.specs.World.{World, Log, world_at_start, empty_log, FullBy, UnsetPointer, NoReturn}
+use Rattle.mx_base.specs.World.{World, Access, Traced, Log, world_at_start, empty_log, FullBy, UnsetPointer, NoReturn}
 use Rattle.fat_ir.specs.Calls.{with_turns, with_data_sp}
 use Rattle.fat_ir.specs.Functions.{Target, OfC, Outside}
 use Rattle.bounds_plan.specs.Core.{Scalar, Effect, Nothing, OfNumber as ForNumber, OfPointer as ForPointer, CopyStruct, Statement, Skip, Do, Then, If, While, DoWhile, For, Break, Continue, Return, ReturnNumber, ReturnPtr}
@@ -18,11 +18,14 @@ use Rattle.bounds_plan.specs.State.{Pointer, Passed, OfNumber, OfPointer, State,
 use Rattle.bounds_plan.specs.Accesses.{judge, allow, read_number, write_number, read_pointer, write_pointer}
 use Rattle.bounds_plan.specs.Expressions.{Answer, Comes, Stops, CalleeOfC, Names as NamesOf, choose, number, pointer, in_frame, pointer_passed, number_passed}
 use Rattle.bounds_plan.specs.Statements.{part, copy_scalar, copy_scalars, effect, turn_from, turn, Flow, Normal, Broke, Continued, Returned, Left, after_body, round, loop, round_once, loop_once, after_first, statement}
-use Rattle.bounds_plan.specs.Functions.{Parameter, Private, Framed, Framed_variable, FunctionOfC, arrive, arrive_all, made_in_frame, unset, state_at_entry, result_of, answer_of, body_run, returning, Linked, call_of, names_of, entered_at, calls}
+use Rattle.bounds_plan.specs.Functions.{Parameter, Private, Framed, Framed_variable, FunctionOfC, arrive, arrive_all, made_in_frame, unset, state_at_entry, result_of, answer_of, body_run, returning, Linked, call_of, names_of, entered_at, calls, exited, program_run}
 use Rattle.bounds_plan.specs.Functions.{turn_from as world_turn_from}
-use Rattle.bounds_plan.specs.Laws.{passes_on}
+use Rattle.bounds_plan.specs.Laws.{passes_on, Leaves, LeftOutside, Judged, accesses_of, AllWithin, CopiesWhole}
+use Rattle.bounds_plan.proofs.Worlds.{judged-calls}
+use Rattle.fat_ir.specs.Laws.{NoneRefused}
+use Rattle.fat_ir.specs.Functions.{most_depth}
 use Rattle.bounds_plan.specs.Compiled.{sorts_of}
-use Rattle.bounds_plan.specs.Roots.{HasRoot, AllRooted, LogGrows, PassedHasRoot, AllHaveRoots, LeavesRooted, RootedCalls, RootedOutside, StandsIn, NamesEffect, NamesStatement, ObjectMade, IsFramed, ParametersFramed, AllMade}
+use Rattle.bounds_plan.specs.Roots.{RunsWithin, HasRoot, AllRooted, LogGrows, PassedHasRoot, AllHaveRoots, LeavesRooted, RootedCalls, RootedOutside, StandsIn, NamesEffect, NamesStatement, ObjectMade, IsFramed, ParametersFramed, AllMade}
 use Rattle.bounds_plan.proofs.Roots.{stands-later, stands-last, grows-same, grows-join, has-later, passed-later, all-passed-later, cause-stands, cause-grows, made-grows, rooted-later}
 use Rattle.bounds_plan.proofs.Rooted.{Numbers, Units, Points, Inv, From, Good, after, world-on, numbers-on, good-full, good-frame, good-judge, good-allow, good-read, good-write, good-read-pointer, good-write-pointer, good-set, good-passed, good-choose, good-number, good-pointer}
 
@@ -311,3 +314,29 @@ rooted-start start bytes input turns = record { begun = (grows-same record empty
 
 pub rooted-passed-on : (start : List BoundsPair) → RootedOutside start passes_on
 rooted-passed-on start own h g args w l r a = turn-taken start w.turns w w l l (λ u. own g args u l) (grows-same l) r (λ n. h g args (with_turns n w) l (same-store start w (with_turns n w) l (λ g. refl) r) a)
+
+-- ---- whole runs
+
+of-exited : (fact : World → Log → Type 0) (a : Answer) → Leaves fact a → Leaves fact (exited a)
+of-exited fact (Comes v w l) h = h
+of-exited fact (Stops why w l) h = h
+
+from-start : (start : List BoundsPair) (bytes : Bytes) (input : List ℕ) (turns : ℕ) (w : World) (l : Log) → Judged (world_at_start bytes input turns) record empty_log { made = start } w l → AllRooted start w l → RunsWithin start w l
+from-start start bytes input turns w l j r =
+    let W : List Traced → Type 0 = λ ts. AllWithin ts in
+    let R : List Access → Type 0 = λ xs. NoneRefused xs in
+    let same : w.accesses ≡ accesses_of l.trace = j.accesses ∙ ap accesses_of (sym j.trace) in
+    record { accesses = same; allowed = subst R (sym j.accesses) j.allowed; within = subst W (sym j.trace) j.within; rooted = r }
+
+both-leave : (start : List BoundsPair) (bytes : Bytes) (input : List ℕ) (turns : ℕ) (a : Answer)
+    → Leaves (Judged (world_at_start bytes input turns) record empty_log { made = start }) a → LeavesRooted start (world_at_start bytes input turns) record empty_log { made = start } a → Leaves (RunsWithin start) a
+both-leave start bytes input turns (Comes v w l) j r = from-start start bytes input turns w l j r.0
+both-leave start bytes input turns (Stops why w l) j r = from-start start bytes input turns w l j r.0
+
+pub whole-runs : (start : List BoundsPair) (program : ℕ → Linked) → CopiesWhole program → AllMade start program → (outside : CalleeOfC → CalleeOfC) → LeftOutside Judged outside → RootedOutside start outside
+    → (main : ℕ) (bytes : Bytes) (input : List ℕ) (turns : ℕ) → Leaves (RunsWithin start) (program_run program outside main (world_at_start bytes input turns) record empty_log { made = start })
+whole-runs start program whole made outside judges roots main bytes input turns =
+    let w = world_at_start bytes input turns in
+    let l : Log = record empty_log { made = start } in
+    let a = calls program outside most_depth main [] w l in
+    of-exited (RunsWithin start) a (both-leave start bytes input turns a (judged-calls program whole outside judges most_depth main [] w l) (rooted-calls start program made outside roots most_depth main [] w l (rooted-start start bytes input turns) tt))

@@ -289,8 +289,9 @@ module _ (private : ℕ) (sorts : ℕ → Bool) (takes : ℕ → ℕ) (N B : ℕ
   right_of (If test a b) d l lb lc f t =
       let n = pairs_of (If test a b) in
       let x = (first d n (let h = some test in omega (arith, h)) t).0 in
-      both (code test d (l + 2)) _ (right test d (l + 2) f.0 (fewer d n (pairs test) (omega arith) t))
-      (x, both (code_of b d (l + 2 + labels test) lb lc) (s.Jump (l + 1) ∷ s.Label l ∷ (code_of a d (l + 2 + labels test + labels_of b) lb lc ++ (s.Label (l + 1) ∷ []))) (right_of b d (l + 2 + labels test) lb lc f.2 (fewer d n (pairs_of b) (omega arith) t)) (tt, (tt, both (code_of a d (l + 2 + labels test + labels_of b) lb lc) _ (right_of a d (l + 2 + labels test + labels_of b) lb lc f.1 (fewer d n (pairs_of a) (omega arith) t)) (tt, tt))))
+      let rest = s.Jump (l + 1) ∷ s.Label l ∷ (code_of a d (l + 2 + labels test + labels_of b) lb lc ++ (s.Label (l + 1) ∷ [])) in
+      both (code test d (l + 2)) (s.JumpIf d l ∷ (code_of b d (l + 2 + labels test) lb lc ++ rest)) (right test d (l + 2) f.0 (fewer d n (pairs test) (omega arith) t))
+      (x, both (code_of b d (l + 2 + labels test) lb lc) rest (right_of b d (l + 2 + labels test) lb lc f.2 (fewer d n (pairs_of b) (omega arith) t)) (tt, (tt, both (code_of a d (l + 2 + labels test + labels_of b) lb lc) _ (right_of a d (l + 2 + labels test + labels_of b) lb lc f.1 (fewer d n (pairs_of a) (omega arith) t)) (tt, tt))))
   right_of (While test body) d l lb lc f t =
       let n = pairs_of (While test body) in
       let x = (first d n (let h = some test in omega (arith, h)) t).0 in

@@ -9,7 +9,8 @@ use Rattle.bounds_plan.specs.Core.{NumberExpr, Word, Variable, Assign, Operate, 
 use Rattle.bounds_plan.specs.State.{Passed, OfNumber, OfPointer}
 use Rattle.bounds_plan.specs.Expressions.{Answer, Comes, Stops, CalleeOfC}
 use Rattle.bounds_plan.specs.Functions.{Parameter, Private, Framed, Framed_variable, Linked}
-use Rattle.bounds_plan.specs.Laws.{scalar_size}
+use Rattle.fat_ir.specs.Laws.{NoneRefused}
+use Rattle.bounds_plan.specs.Laws.{scalar_size, accesses_of, AllWithin}
 use Rattle.bounds_plan.specs.Compiled.{sorts_of}
 
 -- ---- roots
@@ -202,3 +203,12 @@ pub record NamesWhatIsMade (start : List Bounds) (l : Linked) : Type 0 where
 
 abbrev pub AllMade : List Bounds → (ℕ → Linked) → Type 0
 AllMade start program = (f : ℕ) → NamesWhatIsMade start (program f)
+
+-- ---- whole runs
+
+-- what a whole run leaves: the log has each access of the world with its bounds, none was refused or left its bounds, and all bounds have roots
+pub record RunsWithin (start : List Bounds) (w : World) (l : Log) : Type 0 where
+  pub accesses : w.accesses ≡ accesses_of l.trace
+  pub allowed : NoneRefused w.accesses
+  pub within : AllWithin l.trace
+  pub rooted : AllRooted start w l

@@ -15,11 +15,11 @@ ghost use Rattle.bounds_plan.specs.Functions.{FunctionOfC, Linked, body_run, cal
 ghost use Rattle.bounds_plan.specs.Compiled.{FitsFunction, function_run_by_steps, all_compiled, parameters_of, FitsProgram, OutsideSame};
 ghost use Rattle.bounds_plan.specs.Sorts.{pairs_of, AllNameRight, NumberIn, BoundsIn};
 ghost use Rattle.bounds_plan.specs.Outside.{lends, lends_by_steps, lending};
-ghost use Rattle.bounds_plan.specs.Roots.{AllRooted, RootedCalls, RootedOutside, AllMade};
+ghost use Rattle.bounds_plan.specs.Roots.{AllRooted, RootedCalls, RootedOutside, AllMade, RunsWithin};
 ghost use Rattle.fat_ir.specs.Laws.{LacksLabel, passes_on as passes_on_by_steps};
 ghost use Rattle.bounds_plan.specs.Core.{NumberExpr, PointerExpr, Statement};
 ghost use Rattle.bounds_plan.specs.Code.{labels, labels_ptr, labels_of, code, code_ptr, code_of, fat_parameters, fat_function, most_pairs};
-ghost use Rattle.bounds_plan.specs.Laws.{IsOutside, times, JumpsTo, LeftByCalls, LeftOutside, NoMoreTurns, OutputGrows, Judged, OnlyWrites, Events, InPieces, CopiesWhole, passes_on};
+ghost use Rattle.bounds_plan.specs.Laws.{Leaves, IsOutside, times, JumpsTo, LeftByCalls, LeftOutside, NoMoreTurns, OutputGrows, Judged, OnlyWrites, Events, InPieces, CopiesWhole, passes_on};
 
 /// No run of a program leaves more turns than there were, if nothing outside of it does.
 pub fn turns_never_grow()
@@ -55,6 +55,12 @@ pub fn memory_changes_by_writes()
 pub fn bounds_have_roots()
     ensures calls { (start : List Bounds) (program : ℕ → Linked) → AllMade start program → (outside : CalleeOfC → CalleeOfC) → RootedOutside start outside → (depth : ℕ) → RootedCalls start (calls program outside depth) }
     ensures starts { (start : List Bounds) (bytes : Bytes) (input : List ℕ) (turns : ℕ) → AllRooted start (world_at_start bytes input turns) record empty_log { made = start } }
+{}
+
+/// A whole run, from the start of a program to its stop: the log has each access that was done, with the bounds of its pointer;
+/// none was refused, none left its bounds, and all bounds have their roots.
+pub fn runs_stay_within_rooted_bounds()
+    ensures { (start : List Bounds) (program : ℕ → Linked) → CopiesWhole program → AllMade start program → (outside : CalleeOfC → CalleeOfC) → LeftOutside Judged outside → RootedOutside start outside → (main : ℕ) (bytes : Bytes) (input : List ℕ) (turns : ℕ) → Leaves (RunsWithin start) (program_run program outside main (world_at_start bytes input turns) record empty_log { made = start }) }
 {}
 
 /// What is outside of a program can keep to all of these: for one, a function that calls the C function of its own number

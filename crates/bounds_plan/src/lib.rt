@@ -9,7 +9,7 @@ pub use laws::{
     compiled_bodies_do_what_they_mean, compiled_functions_do_what_they_mean,
     compiled_programs_do_what_they_mean, jumps_find_their_labels, logs_decide_nothing,
     memory_changes_by_writes, output_only_grows, outside_can_do_the_same,
-    outside_can_hand_over_pointers, outside_can_keep_to_laws, steps_name_values_of_their_sort,
-    turns_never_grow,
+    outside_can_hand_over_pointers, outside_can_keep_to_laws, runs_stay_within_rooted_bounds,
+    steps_name_values_of_their_sort, turns_never_grow,
 };
 pub use worked::{compiled_programs_run_so, small_programs_mean_so};
