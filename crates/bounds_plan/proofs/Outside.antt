@@ -6,14 +6,14 @@ use Rattle.mx_base.specs.World.{World, MadeAt, LegacyInit, Log, with_store}
 use Rattle.fat_ir.specs.Calls.{Outcome, with_turns}
 use Rattle.bounds_plan.specs.State.{Passed, OfNumber, OfPointer, with_made, with_cause}
 use Rattle.bounds_plan.specs.Expressions.{Answer, Comes, Stops, CalleeOfC}
-use Rattle.bounds_plan.specs.Laws.{Leaves, LeftOutside, NoMoreTurns, InPieces, EventOutside, Joined}
+use Rattle.bounds_plan.specs.Laws.{Relation, OutputGrows, Judged, Leaves, LeftOutside, NoMoreTurns, InPieces, EventOutside}
 use Rattle.bounds_plan.specs.Follows.{outcome_of}
 use Rattle.bounds_plan.specs.Compiled.{OutsideSame}
 use Rattle.bounds_plan.specs.Roots.{AllRooted, LogGrows, LeavesRooted, RootedCalls, RootedOutside}
 use Rattle.bounds_plan.specs.Outside.{made_and_kept, once_kept, widened, lends, once_kept_by_steps, widened_by_steps, lends_by_steps, kept_or_same, lending}
 use Rattle.bounds_plan.proofs.Roots.{grows-same, grows-join, made-grows, made-stands, cause-grows, cause-stands, rooted-later, rooted-kept, kept-keep}
-use Rattle.bounds_plan.proofs.Runs.{kept-taking_turn}
-use Rattle.bounds_plan.proofs.Worlds.{fewer, pieces}
+use Rattle.bounds_plan.proofs.Runs.{Keeps, kept-taking_turn}
+use Rattle.bounds_plan.proofs.Worlds.{fewer, longer, longer-by-none, judged, no_access, pieces}
 use Rattle.bounds_plan.proofs.Calls.{taking_same}
 use Rattle.bounds_plan.proofs.RootedCalls.{turn-taken, same-store}
 
@@ -36,47 +36,38 @@ lends-same takes takes_outside one at value b own fat same few g args w log coun
     (λ u. once-same at b u log (keep_bounds u.store at value b) (λ x after. widened (own g (lent value b log) x after)) _
     (λ x after. widened-same (own g (lent value b log) x after) _ (same g (lent value b log) x after (sym (one g)))))
 
--- ---- turns
+-- ---- it leaves what events leave, and its keeping of bounds
 
-fewer-widened : (w : World) (l : Log) (a : Answer) → Leaves (NoMoreTurns w l) a → Leaves (NoMoreTurns w l) (widened a)
-fewer-widened w l (Comes v u m) h = h
-fewer-widened w l (Stops why u m) h = h
+module _ (R : Relation) (k : Keeps R) (at value : ℕ) (b : Bounds) (keeps : (w : World) (log : Log) (s : BoundsStore) → keep_bounds w.store at value b ≡ Some s → R w log (with_store w s) (made_and_kept at b log)) where
+  on-from : (w : World) (l : Log) (x : World) (m : Log) (a : Answer) → R w l x m → Leaves (R x m) a → Leaves (R w l) a
+  on-from w l x m (Comes v u n) h g = k.join w l x m u n h g
+  on-from w l x m (Stops why u n) h g = k.join w l x m u n h g
 
-fewer-once : (at : ℕ) (b : Bounds) (w : World) (log : Log) (o : Option BoundsStore) (go : World → Log → Answer) → ((x : World) (after : Log) → x.turns ≡ w.turns → Leaves (NoMoreTurns w log) (go x after)) → Leaves (NoMoreTurns w log) (once_kept at b w log o go)
-fewer-once at b w log None go h = omega arith
-fewer-once at b w log (Some s) go h = h (with_store w s) (made_and_kept at b log) refl
-
-fewer-from : (w x : World) (l m : Log) (a : Answer) → x.turns ≡ w.turns → Leaves (NoMoreTurns x m) a → Leaves (NoMoreTurns w l) a
-fewer-from w x l m (Comes v u n) e h = omega (arith, e, h)
-fewer-from w x l m (Stops why u n) e h = omega (arith, e, h)
-
-pub lends-fewer : (at value : ℕ) (b : Bounds) → LeftOutside NoMoreTurns (lends at value b)
-lends-fewer at value b own h g args w log = kept-taking_turn NoMoreTurns fewer w log _
-    (λ u. fewer-once at b u log (keep_bounds u.store at value b) (λ x after. widened (own g (lent value b log) x after))
-    (λ x after e. fewer-widened u log (own g (lent value b log) x after) (fewer-from u x log after (own g (lent value b log) x after) e (h g (lent value b log) x after))))
-
--- ---- pieces
-
-module _ (at value : ℕ) (b : Bounds) where
-  abbrev Pieces : World → Log → World → Log → Type 0
-  Pieces w l u m = InPieces (lending at value b) w l u m
-
-  pieces-on : (w : World) (l : Log) (x : World) (m : Log) (a : Answer) → Pieces w l x m → Leaves (Pieces x m) a → Leaves (Pieces w l) a
-  pieces-on w l x m (Comes v u n) h g = Joined w l x m u n h g
-  pieces-on w l x m (Stops why u n) h g = Joined w l x m u n h g
-
-  widening : (w : World) (l : Log) (a : Answer) → Leaves (Pieces w l) a → Leaves (Pieces w l) (widened a)
-  widening w l (Comes v u m) h = Joined w l u m u (with_cause LegacyInit m) h ((pieces (lending at value b)).logged u m (with_cause LegacyInit m) refl)
+  widening : (w : World) (l : Log) (a : Answer) → Leaves (R w l) a → Leaves (R w l) (widened a)
+  widening w l (Comes v u m) h = k.join w l u m u (with_cause LegacyInit m) h (k.logged u m (with_cause LegacyInit m) refl)
   widening w l (Stops why u m) h = h
 
-  pieces-once : (w : World) (log : Log) (o : Option BoundsStore) (go : World → Log → Answer) → keep_bounds w.store at value b ≡ o → ((x : World) (after : Log) → Pieces w log x after → Leaves (Pieces w log) (go x after)) → Leaves (Pieces w log) (once_kept at b w log o go)
-  pieces-once w log None go e h = (pieces (lending at value b)).same w log
-  pieces-once w log (Some s) go e h = h (with_store w s) (made_and_kept at b log) (EventOutside w log (with_store w s) (made_and_kept at b log) [] (ap (λ o. kept_or_same at b w log o) e))
+  kept-once : (w : World) (log : Log) (o : Option BoundsStore) (go : World → Log → Answer) → keep_bounds w.store at value b ≡ o → ((x : World) (after : Log) → R w log x after → Leaves (R w log) (go x after)) → Leaves (R w log) (once_kept at b w log o go)
+  kept-once w log None go e h = k.same w log
+  kept-once w log (Some s) go e h = h (with_store w s) (made_and_kept at b log) (keeps w log s e)
 
-  pub lends-pieces : LeftOutside (InPieces (lending at value b)) (lends at value b)
-  lends-pieces own h g args w log = kept-taking_turn (InPieces (lending at value b)) (pieces (lending at value b)) w log _
-      (λ u. pieces-once u log (keep_bounds u.store at value b) (λ x after. widened (own g (lent value b log) x after)) refl
-      (λ x after e. widening u log (own g (lent value b log) x after) (pieces-on u log x after (own g (lent value b log) x after) e (h g (lent value b log) x after))))
+  lends-keeps : LeftOutside R (lends at value b)
+  lends-keeps own h g args w log = kept-taking_turn R k w log _
+      (λ u. kept-once u log (keep_bounds u.store at value b) (λ x after. widened (own g (lent value b log) x after)) refl
+      (λ x after e. widening u log (own g (lent value b log) x after) (on-from u log x after (own g (lent value b log) x after) e (h g (lent value b log) x after))))
+
+pub lends-fewer : (at value : ℕ) (b : Bounds) → LeftOutside NoMoreTurns (lends at value b)
+lends-fewer at value b = lends-keeps NoMoreTurns fewer at value b (λ w log s e. omega arith)
+
+pub lends-longer : (at value : ℕ) (b : Bounds) → LeftOutside OutputGrows (lends at value b)
+lends-longer at value b = lends-keeps OutputGrows longer at value b (λ w log s e. longer-by-none w log (with_store w s) (made_and_kept at b log) refl)
+
+pub lends-judged : (at value : ℕ) (b : Bounds) → LeftOutside Judged (lends at value b)
+lends-judged at value b = lends-keeps Judged judged at value b (λ w log s e. no_access w log (with_store w s) (made_and_kept at b log) refl refl)
+
+pub lends-pieces : (at value : ℕ) (b : Bounds) → LeftOutside (InPieces (lending at value b)) (lends at value b)
+lends-pieces at value b = lends-keeps (InPieces (lending at value b)) (pieces (lending at value b)) at value b
+    (λ w log s e. EventOutside w log (with_store w s) (made_and_kept at b log) [] (ap (λ o. kept_or_same at b w log o) e))
 
 -- ---- roots
 

@@ -108,6 +108,9 @@ longer = record {
   wrote_pointer = λ w l p v b s e f g. output w l _ _ (begins-same w.guest.out);
 }
 
+pub longer-by-none : (w : World) (l : Log) (u : World) (m : Log) → u.guest.out ≡ w.guest.out → OutputGrows w l u m
+longer-by-none w l u m e = record { more = []; is = e ∙ sym (append-nil w.guest.out) }
+
 longer-copies : (to from : Pointer) (scalars : List Scalar) → CopiesAll OutputGrows longer to from scalars
 longer-copies to from [] = tt
 longer-copies to from (x ∷ rest) = ((λ e w l. output w l _ _ (begins-same w.guest.out), λ e w l v. output w l _ _ (begins-same w.guest.out), λ n e w l v b s f. output w l _ _ (begins-same w.guest.out)), longer-copies to from rest)
@@ -125,7 +128,7 @@ within-append : (xs ys : List Traced) → AllWithin xs → AllWithin ys → AllW
 within-append [] ys h g = g
 within-append (x ∷ xs) ys h g = (h.0, within-append xs ys h.1 g)
 
-no_access : (w : World) (l : Log) (u : World) (m : Log) → m.trace ≡ l.trace → u.accesses ≡ w.accesses → Judged w l u m
+pub no_access : (w : World) (l : Log) (u : World) (m : Log) → m.trace ≡ l.trace → u.accesses ≡ w.accesses → Judged w l u m
 no_access w l u m t a = record {
   more = [];
   trace = t ∙ sym (append-nil l.trace);

@@ -138,6 +138,8 @@ pub fn outside_can_do_the_same()
 pub fn outside_can_hand_over_pointers()
     ensures same { (takes takes_outside : ℕ → ℕ) → ((f : ℕ) → takes f ≡ 1) → (at value : ℕ) (b : Bounds) → OutsideSame takes takes_outside (lends at value b) (lends_by_steps at value b) }
     ensures turns { (at value : ℕ) (b : Bounds) → LeftOutside NoMoreTurns (lends at value b) }
+    ensures output { (at value : ℕ) (b : Bounds) → LeftOutside OutputGrows (lends at value b) }
+    ensures judged { (at value : ℕ) (b : Bounds) → LeftOutside Judged (lends at value b) }
     ensures pieces { (at value : ℕ) (b : Bounds) → LeftOutside (InPieces (lending at value b)) (lends at value b) }
     ensures roots { (start : List Bounds) (at value : ℕ) (b : Bounds) → RootedOutside start (lends at value b) }
 {}
