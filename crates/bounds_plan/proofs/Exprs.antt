@@ -12,7 +12,7 @@ use Rattle.fat_ir.specs.Values.{Number, Pair}
 use Rattle.fat_ir.specs.Step.{Located, pointer_into, Symbols, Next, Reached, On, with_number, with_pair, with_pointer, with_world, operated, compared, came_back, served_in_c, pointer_came, number_loaded}
 use Rattle.fat_ir.specs.Run.{pass, and_then}
 use Rattle.bounds_plan.proofs.Fresh.{fresh, fresh_ptr}
-use Rattle.bounds_plan.specs.Core.{NumberExpr, Word, Variable, Assign, Operate, Compare, Convert, AsNumber, Load, Store, Update, UpdateAt, And, Or, Choose, Call, Serve, Ask, PointerExpr, Null, FromInteger, Function, Object, InFrame, VariablePtr, AssignPtr, Member, Element, LoadPtr, StorePtr, Advance, AdvanceAt, ChoosePtr, CallPtr, Alloc, SetBounds, NarrowBounds, CopyBounds, InitBounds, BoundOf, Arguments, NoMore, WithNumber, WithPointer}
+use Rattle.bounds_plan.specs.Core.{NumberExpr, Word, Variable, Assign, Operate, Compare, Convert, AsNumber, Load, Store, Update, UpdateAt, And, Or, Choose, Call, Serve, Ask, PointerExpr, Null, FromInteger, Function, Object, InFrame, VariablePtr, AssignPtr, Member, Element, ElementAfter, LoadPtr, StorePtr, Advance, AdvanceAt, ChoosePtr, CallPtr, Alloc, SetBounds, NarrowBounds, CopyBounds, InitBounds, BoundOf, Arguments, NoMore, WithNumber, WithPointer}
 use Rattle.bounds_plan.specs.State.{Pointer, OfNumber, OfPointer, Done, M, bind, ◌>>=◌, ◌>>◌, pure, set_variable, with_cause, with_made, place_of}
 use Rattle.bounds_plan.specs.Accesses.{load_ptr, store_ptr, read_number as source_read, read_pointer, allow}
 use Rattle.bounds_plan.specs.Expressions.{Names, number, pointer, arguments, operate, object, either, block, calling, number_passed, pointer_passed, step}
@@ -20,7 +20,7 @@ use Rattle.bounds_plan.specs.Code.{operator, comparison, plus_or_minus, before_o
 use Rattle.bounds_plan.specs.Follows.{Fits, FitsPtr, FitsAll, DoesSame}
 use Rattle.bounds_plan.proofs.Words.{operator-back, comparison-back}
 use Rattle.bounds_plan.proofs.Sim.{here, there, read_number, read_bounds, read_held_number, read_held_pair, beside, NumberIn, PointerIn, agree_on, stay_on, RunsTo, and_on, on_step, judge_follows, allow_follows}
-use Rattle.bounds_plan.proofs.Pieces.{SimN, SimP, finish_number, kept_number, kept_pair, stay_join, home_number, home_pair, finish_pair, finish_pointer, finish_came, Same, stores_number, stores_pointer, same_stay, of_same, full_at_0, finish_front, finish_full, finish_object, weaken, chooses, made_of, finish_operated, under, over, finish_set, operate_follows, both, one_of, finish_served, serves, finish_block, finish_update, scale_follows, finish_member, finish_element, update_at, advance_at, advance, finish_set_ptr, ArgumentsIn, read_none, read_one, read_two, reads, came_number, came_pointer}
+use Rattle.bounds_plan.proofs.Pieces.{SimN, SimP, finish_number, kept_number, kept_pair, stay_join, home_number, home_pair, finish_pair, finish_pointer, finish_came, Same, stores_number, stores_pointer, same_stay, of_same, full_at_0, finish_front, finish_full, finish_object, weaken, chooses, made_of, finish_operated, under, over, finish_set, operate_follows, both, one_of, finish_served, serves, finish_block, finish_update, scale_follows, finish_member, finish_element, finish_element_after, update_at, advance_at, advance, finish_set_ptr, ArgumentsIn, read_none, read_one, read_two, reads, came_number, came_pointer}
 
 module _ (private : ℕ) (sorts : ℕ → Bool) where
   module _ (symbols : Symbols) where
@@ -175,6 +175,10 @@ module _ (private : ℕ) (sorts : ℕ → Bool) where
             (λ p numbers pairs log u a at. and_on private sorts symbols (NumberIn private sorts (d + 2) u) (PointerIn private sorts d t) _ (code i (d + 2) (l + labels_ptr e)) _ u _ (runs i (d + 2) (l + labels_ptr e) (omega (arith, above)) fit.1 numbers pairs log u a)
             (λ n numbers pairs log w a there_at. finish_element private sorts symbols minus size d p n t numbers pairs log w above a (stay_join private sorts symbols d (d + 2) t u w (omega arith) at.2 there_at.1)
             (kept_number private sorts symbols (d + 2) d p.address u w above (omega arith) at.0 there_at.1) (kept_pair private sorts symbols (d + 2) (d + 1) p.rooted.bounds u w (omega (arith, above)) (omega arith) at.1 there_at.1) there_at.0))
+        runs_ptr (ElementAfter size i e) d l above fit numbers pairs log t a = and_on private sorts symbols (NumberIn private sorts d t) (PointerIn private sorts d t) _ (code i d l) _ t _ (runs i d l above fit.0 numbers pairs log t a)
+            (λ n numbers pairs log u a at. and_on private sorts symbols (PointerIn private sorts (d + 2) u) (PointerIn private sorts d t) _ (code_ptr e (d + 2) (l + labels i)) _ u _ (runs_ptr e (d + 2) (l + labels i) (omega (arith, above)) fit.1 numbers pairs log u a)
+            (λ p numbers pairs log w a there_at. finish_element_after private sorts symbols size d p n t numbers pairs log w above a (stay_join private sorts symbols d (d + 2) t u w (omega arith) at.1 there_at.2)
+            (kept_number private sorts symbols (d + 2) d n u w above (omega arith) at.0 there_at.2) there_at.0 there_at.1))
         runs_ptr (Advance x minus size i old) d l above fit numbers pairs log t a = and_on private sorts symbols (NumberIn private sorts d t) (PointerIn private sorts d t) _ (code i d l) _ t _ (runs i d l above fit.1 numbers pairs log t a)
             (λ n numbers pairs log u a at. advance private sorts symbols x minus size old d n t numbers pairs log u above fit.0.0 fit.0.1 fit.0.2 a at.1 at.0)
         runs_ptr (AdvanceAt place e minus size i old) d l above fit numbers pairs log t a = and_on private sorts symbols (PointerIn private sorts d t) (PointerIn private sorts d t) _ (code_ptr e d l) _ t _ (runs_ptr e d l above fit.0 numbers pairs log t a)

@@ -7,7 +7,7 @@ use Rattle.narrowing.specs.declared.member.Rule.TheVariants.{Keep, Meet as MeetR
 use Rattle.fat_ir.specs.declared.step.FatStep.{FatStep}
 use Rattle.fat_ir.specs.declared.step.FatStep.TheVariants.{Label}
 use Rattle.fat_ir.specs.Laws.{LacksLabel}
-use Rattle.bounds_plan.specs.Core.{NumberExpr, Word, Variable, Assign, Operate, Compare, Convert, AsNumber, Load, Store, Update, UpdateAt, And, Or, Choose, Call, Serve, Ask, PointerExpr, Null, FromInteger, Function, Object, InFrame, VariablePtr, AssignPtr, Member, Element, LoadPtr, StorePtr, Advance, AdvanceAt, ChoosePtr, CallPtr, Alloc, SetBounds, NarrowBounds, CopyBounds, InitBounds, BoundOf, Arguments, NoMore, WithNumber, WithPointer, Scalar, Effect, Nothing, OfNumber, OfPointer, CopyStruct, Statement, Skip, Do, Then, If, While, DoWhile, For, Break, Continue, Return, ReturnNumber, ReturnPtr}
+use Rattle.bounds_plan.specs.Core.{NumberExpr, Word, Variable, Assign, Operate, Compare, Convert, AsNumber, Load, Store, Update, UpdateAt, And, Or, Choose, Call, Serve, Ask, PointerExpr, Null, FromInteger, Function, Object, InFrame, VariablePtr, AssignPtr, Member, Element, ElementAfter, LoadPtr, StorePtr, Advance, AdvanceAt, ChoosePtr, CallPtr, Alloc, SetBounds, NarrowBounds, CopyBounds, InitBounds, BoundOf, Arguments, NoMore, WithNumber, WithPointer, Scalar, Effect, Nothing, OfNumber, OfPointer, CopyStruct, Statement, Skip, Do, Then, If, While, DoWhile, For, Break, Continue, Return, ReturnNumber, ReturnPtr}
 use Rattle.bounds_plan.specs.Code.{labels, labels_ptr, labels_all, labels_effect, labels_of, ruled, copied, copied_all, code, code_ptr, codes, code_effect, code_of}
 use Rattle.bounds_plan.specs.Laws.{IsOutside}
 
@@ -87,6 +87,7 @@ mutual
   fresh_ptr (SetBounds q n) d l k out = lacks-append k (code_ptr q d l) _ (fresh_ptr q d l k (part l (labels_ptr q) (omega arith) (omega arith) out)) (lacks-append k (code n (d + 2) (l + labels_ptr q)) _ (fresh n (d + 2) (l + labels_ptr q) k (part (l + labels_ptr q) (labels n) (omega arith) (omega arith) out)) tt)
   fresh_ptr (NarrowBounds p q n) d l k out = lacks-append k (code_ptr p d l) _ (fresh_ptr p d l k (part l (labels_ptr p) (omega arith) (omega arith) out)) (lacks-append k (code_ptr q (d + 2) (l + labels_ptr p)) _ (fresh_ptr q (d + 2) (l + labels_ptr p) k (part (l + labels_ptr p) (labels_ptr q) (omega arith) (omega arith) out))
       (lacks-append k (code n (d + 4) (l + labels_ptr p + labels_ptr q)) _ (fresh n (d + 4) (l + labels_ptr p + labels_ptr q) k (part (l + labels_ptr p + labels_ptr q) (labels n) (omega arith) (omega arith) out)) tt))
+  fresh_ptr (ElementAfter size i p) d l k out = lacks-append k (code i d l) _ (fresh i d l k (part l (labels i) (omega arith) (omega arith) out)) (lacks-append k (code_ptr p (d + 2) (l + labels i)) _ (fresh_ptr p (d + 2) (l + labels i) k (part (l + labels i) (labels_ptr p) (omega arith) (omega arith) out)) tt)
   fresh_ptr (CopyBounds q r) d l k out = lacks-append k (code_ptr q d l) _ (fresh_ptr q d l k (part l (labels_ptr q) (omega arith) (omega arith) out)) (lacks-append k (code_ptr r (d + 2) (l + labels_ptr q)) _ (fresh_ptr r (d + 2) (l + labels_ptr q) k (part (l + labels_ptr q) (labels_ptr r) (omega arith) (omega arith) out)) tt)
   fresh_ptr (InitBounds q) d l k out = lacks-append k (code_ptr q d l) _ (fresh_ptr q d l k out) tt
   fresh_ptr (BoundOf upper q) d l k out = lacks-append k (code_ptr q d l) _ (fresh_ptr q d l k out) tt

@@ -8,7 +8,7 @@ use Rattle.narrowing.specs.declared.member.Rule.{Rule}
 use Rattle.narrowing.specs.declared.member.Rule.TheVariants.{Keep, Meet}
 use Rattle.fat_ir.specs.declared.step.FatStep.{FatStep}
 use Rattle.fat_ir.specs.declared.step.FatStep.TheVariants as s
-use Rattle.bounds_plan.specs.Core.{NumberExpr, Word, Variable, Assign, Operate, Compare, Convert, AsNumber, Load, Store, Update, UpdateAt, And, Or, Choose, Call, Serve, Ask, PointerExpr, Null, FromInteger, Function, Object, InFrame, VariablePtr, AssignPtr, Member, Element, LoadPtr, StorePtr, Advance, AdvanceAt, ChoosePtr, CallPtr, Alloc, SetBounds, NarrowBounds, CopyBounds, InitBounds, BoundOf, Arguments, NoMore, WithNumber, WithPointer, Scalar, Effect, Nothing, OfNumber as ForNumber, OfPointer as ForPointer, CopyStruct, Statement, Skip, Do, Then, If, While, DoWhile, For, Break, Continue, Return, ReturnNumber, ReturnPtr}
+use Rattle.bounds_plan.specs.Core.{NumberExpr, Word, Variable, Assign, Operate, Compare, Convert, AsNumber, Load, Store, Update, UpdateAt, And, Or, Choose, Call, Serve, Ask, PointerExpr, Null, FromInteger, Function, Object, InFrame, VariablePtr, AssignPtr, Member, Element, ElementAfter, LoadPtr, StorePtr, Advance, AdvanceAt, ChoosePtr, CallPtr, Alloc, SetBounds, NarrowBounds, CopyBounds, InitBounds, BoundOf, Arguments, NoMore, WithNumber, WithPointer, Scalar, Effect, Nothing, OfNumber as ForNumber, OfPointer as ForPointer, CopyStruct, Statement, Skip, Do, Then, If, While, DoWhile, For, Break, Continue, Return, ReturnNumber, ReturnPtr}
 use Rattle.bounds_plan.specs.Functions.{Parameter, Private, Framed, FunctionOfC}
 use Rattle.bounds_plan.specs.Code.{labels, labels_ptr, labels_all, labels_of, labels_effect, offset_by, ruled, code, code_ptr, codes, copied, copied_all, code_effect, code_of, arrivals, arrived, fat_function}
 use Rattle.bounds_plan.specs.Laws.{times, JumpsTo}
@@ -181,6 +181,7 @@ mutual
   counted_ptr k (AssignPtr x e) d l = one_part k l (labels_ptr e) (code_ptr e d l) _ (counted_ptr k e d l) refl
   counted_ptr k (Member offset rule p) d l = one_part k l (labels_ptr p) (code_ptr p d l) (ruled rule d ++ offset_by offset d d (d + 2)) (counted_ptr k p d l) (let e = times-append k (ruled rule d) (offset_by offset d d (d + 2)) in let u = unlabelled-rule k rule d in omega (arith, e, u))
   counted_ptr k (Element minus size p i) d l = two_parts k l (labels_ptr p) (labels i) (code_ptr p d l) (code i (d + 2) (l + labels_ptr p)) _ (counted_ptr k p d l) (counted k i (d + 2) (l + labels_ptr p)) refl
+  counted_ptr k (ElementAfter size i p) d l = two_parts k l (labels i) (labels_ptr p) (code i d l) (code_ptr p (d + 2) (l + labels i)) _ (counted k i d l) (counted_ptr k p (d + 2) (l + labels i)) refl
   counted_ptr k (LoadPtr place p) d l = one_part k l (labels_ptr p) (code_ptr p d l) _ (counted_ptr k p d l) refl
   counted_ptr k (StorePtr place p e) d l = two_parts k l (labels_ptr p) (labels_ptr e) (code_ptr p d l) (code_ptr e (d + 2) (l + labels_ptr p)) _ (counted_ptr k p d l) (counted_ptr k e (d + 2) (l + labels_ptr p)) refl
   counted_ptr k (Advance x minus size i old) d l = one_part k l (labels i) (code i d l) _ (counted k i d l) refl
@@ -375,6 +376,7 @@ module _ (J : ℕ → Type 0) where
     jumps_ptr (AssignPtr x e) d l h = join (code_ptr e d l) _ (jumps_ptr e d l h) tt
     jumps_ptr (Member offset rule p) d l h = join (code_ptr p d l) (ruled rule d ++ offset_by offset d d (d + 2)) (jumps_ptr p d l h) (join (ruled rule d) (offset_by offset d d (d + 2)) (jumps-rule rule d) tt)
     jumps_ptr (Element minus size p i) d l h = let n = labels_ptr p + labels i in join (code_ptr p d l) _ (jumps_ptr p d l (some-of l n l (labels_ptr p) (omega arith) (omega arith) h)) (join (code i (d + 2) (l + labels_ptr p)) _ (jumps i (d + 2) (l + labels_ptr p) (some-of l n (l + labels_ptr p) (labels i) (omega arith) (omega arith) h)) tt)
+    jumps_ptr (ElementAfter size i p) d l h = let n = labels i + labels_ptr p in join (code i d l) _ (jumps i d l (some-of l n l (labels i) (omega arith) (omega arith) h)) (join (code_ptr p (d + 2) (l + labels i)) _ (jumps_ptr p (d + 2) (l + labels i) (some-of l n (l + labels i) (labels_ptr p) (omega arith) (omega arith) h)) tt)
     jumps_ptr (LoadPtr place p) d l h = join (code_ptr p d l) _ (jumps_ptr p d l h) tt
     jumps_ptr (StorePtr place p e) d l h = let n = labels_ptr p + labels_ptr e in join (code_ptr p d l) _ (jumps_ptr p d l (some-of l n l (labels_ptr p) (omega arith) (omega arith) h)) (join (code_ptr e (d + 2) (l + labels_ptr p)) _ (jumps_ptr e (d + 2) (l + labels_ptr p) (some-of l n (l + labels_ptr p) (labels_ptr e) (omega arith) (omega arith) h)) tt)
     jumps_ptr (Advance x minus size i old) d l h = join (code i d l) _ (jumps i d l h) tt

@@ -473,6 +473,26 @@ module _ (private : ℕ) (sorts : ℕ → Bool) where
         (under (d + 1) (d + 2) (Number k) (Pair p.rooted.bounds) u1 (omega arith) (under (d + 1) (d + 4) (Number size) (Pair p.rooted.bounds) u (omega arith) at))
         (pm_step minus size p.address i d d (d + 2) u2 (under d (d + 2) (Number k) (Number p.address) u1 (omega arith) (under d (d + 4) (Number size) (Number p.address) u (omega arith) at_d)) (here (d + 2) (Number k) u1.values)))
 
+    -- the same where the index was evaluated first
+    pub finish_element_after : (size d : ℕ) (p : Pointer) (i : ℕ) (t : T) (numbers : ℕ → ℕ) (pairs : ℕ → Rooted) (log : Log) (u : T) → private ≤ d → Agree private sorts numbers pairs u → Stay private sorts d t u → u.values d ≡ Number i → u.values (d + 2) ≡ Number p.address → u.values (d + 2 + 1) ≡ Pair p.rooted.bounds
+        → SimP d t (Done (step false size p i) (beside private sorts numbers pairs log u)) (pass symbols (scaled size d (d + 4) ++ (s.Arith d plus U64 (d + 2) d ∷ s.Copy (d + 1) (d + 2 + 1) ∷ [])) Next u)
+    finish_element_after size d p i t numbers pairs log u above a st at_i at_p at_b =
+        let q = step false size p i in
+        let b = p.rooted.bounds in
+        let k = i * size % addresses in
+        let u1 = with_number (d + 4) size u in
+        let u2 = with_number d k u1 in
+        let u3 = with_number d q.address u2 in
+        let e4 : private ≤ d + 4 = omega (arith, above) in
+        let p2 : u2.values (d + 2) ≡ Number p.address = over (d + 2) d (Number k) (Number p.address) u1 (omega arith) (under (d + 2) (d + 4) (Number size) (Number p.address) u (omega arith) at_p) in
+        let b3 : u3.values (d + 2 + 1) ≡ Pair b = over (d + 2 + 1) d (Number q.address) (Pair b) u2 (omega arith) (over (d + 2 + 1) d (Number k) (Pair b) u1 (omega arith) (under (d + 2 + 1) (d + 4) (Number size) (Pair b) u (omega arith) at_b)) in
+        scale_follows (PointerIn private sorts d t) (Done q (beside private sorts numbers pairs log u)) size i d (d + 4) (s.Arith d plus U64 (d + 2) d ∷ s.Copy (d + 1) (d + 2 + 1) ∷ []) u (omega arith) at_i
+        (on_step private sorts symbols (PointerIn private sorts d t) (Done q (beside private sorts numbers pairs log u)) (s.Arith d plus U64 (d + 2) d) (s.Copy (d + 1) (d + 2 + 1) ∷ []) u2 u3 (pm_step false size p.address i d (d + 2) d u2 p2 (here d (Number k) u1.values))
+        (finish_pair d t numbers pairs log (s.Copy (d + 1) (d + 2 + 1)) u3 q u.world above
+        (agree_on private sorts numbers pairs d (Number q.address) u2 above (agree_on private sorts numbers pairs d (Number k) u1 above (agree_on private sorts numbers pairs (d + 4) (Number size) u e4 a)))
+        (stay_on private sorts d t u2 d (Number q.address) (omega arith) (stay_on private sorts d t u1 d (Number k) (omega arith) (stay_on private sorts d t u (d + 4) (Number size) (omega arith) st)))
+        (here d (Number q.address) u2.values) (read_held_pair _ b3)))
+
     -- an assignment by an operator, of a place in memory
     pub update_at : (kind : IntKind) (place : PlaceOf) (op : Arithmetic) (common : IntKind) (old : Bool) (d : ℕ) (q : Pointer) (n : ℕ) (t : T) (numbers : ℕ → ℕ) (pairs : ℕ → Rooted) (log : Log) (w : T) → private ≤ d → Agree private sorts numbers pairs w → Stay private sorts d t w
         → w.values d ≡ Number q.address → w.values (d + 1) ≡ Pair q.rooted.bounds → w.values (d + 2) ≡ Number n

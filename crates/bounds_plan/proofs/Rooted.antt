@@ -16,7 +16,7 @@ use Rattle.narrowing.specs.declared.member.Rule.{Rule}
 use Rattle.narrowing.specs.declared.member.Rule.TheVariants.{Keep, Meet}
 use Rattle.narrowing.specs.Member.{bounds_by}
 use Rattle.fat_ir.specs.Step.{Located, ObjectAt, FunctionAt, served_in_c, stop_by}
-use Rattle.bounds_plan.specs.Core.{NumberExpr, Word, Variable, Assign, Operate, Compare, Convert, AsNumber, Load, Store, Update, UpdateAt, And, Or, Choose, Call, Serve, Ask, PointerExpr, Null, FromInteger, Function, Object, InFrame, VariablePtr, AssignPtr, Member, Element, LoadPtr, StorePtr, Advance, AdvanceAt, ChoosePtr, CallPtr, Alloc, SetBounds, NarrowBounds, CopyBounds, InitBounds, BoundOf, Arguments, NoMore, WithNumber, WithPointer}
+use Rattle.bounds_plan.specs.Core.{NumberExpr, Word, Variable, Assign, Operate, Compare, Convert, AsNumber, Load, Store, Update, UpdateAt, And, Or, Choose, Call, Serve, Ask, PointerExpr, Null, FromInteger, Function, Object, InFrame, VariablePtr, AssignPtr, Member, Element, ElementAfter, LoadPtr, StorePtr, Advance, AdvanceAt, ChoosePtr, CallPtr, Alloc, SetBounds, NarrowBounds, CopyBounds, InitBounds, BoundOf, Arguments, NoMore, WithNumber, WithPointer}
 use Rattle.bounds_plan.specs.State.{Pointer, Passed, OfNumber, OfPointer, State, Ended, Done, Stopped, M, bind, ◌>>◌, pure, unless, making, full_by, made_before, with_made, with_cause, stored, set_variable_ptr}
 use Rattle.std.specs.Option.{option_map}
 use Rattle.bounds_plan.specs.Accesses.{leaves, judge, allow, access, with_granule, root_for, with_root, came, went, read_number, write_number, read_pointer, write_pointer, load, store, load_ptr, store_ptr}
@@ -283,6 +283,7 @@ module _ (start : List BoundsPair) (variables : List Framed_variable) (sorts : �
       good-pointer (AssignPtr x e) f s i = after Points Points s (pointer names e s) _ (good-pointer e f.1 s i) (λ p z i g q. after Units Points z (set_variable_ptr x p z) (λ u. pure p) (good-set x p z i q) (λ u y i g r. done Points p y i (has-later z.log y.log g p.rooted q)))
       good-pointer (Member offset rule e) f s i = after Points Points s (pointer names e s) _ (good-pointer e f s i) (λ p z i g q. (i, grows-same z.log, (ruled rule z.log p q)))
       good-pointer (Element minus size e n) f s i = after Points Points s (pointer names e s) _ (good-pointer e f.0 s i) (λ p z i g q. after Numbers Points z (number names n z) _ (good-number n f.1 z i) (λ k y i g r. (i, grows-same y.log, (has-later z.log y.log g p.rooted q))))
+      good-pointer (ElementAfter size n e) f s i = after Numbers Points s (number names n s) _ (good-number n f.0 s i) (λ k z i g q. after Points Points z (pointer names e z) _ (good-pointer e f.1 z i) (λ p y i g r. (i, grows-same y.log, r)))
       good-pointer (LoadPtr place e) f s i = after Points Points s (pointer names e s) _ (good-pointer e f s i) (λ p z i g q. good-load-pointer place p z i q)
       good-pointer (StorePtr place to e) f s i = after Points Points s (pointer names to s) _ (good-pointer to f.0 s i) (λ p z i g q. after Points Points z (pointer names e z) _ (good-pointer e f.1 z i)
           (λ v y i g r. after Units Points y (store_ptr place p v y) _ (good-store-pointer place p v y i (has-later z.log y.log g p.rooted q) r) (λ u x i g t. done Points v x i (has-later y.log x.log g v.rooted r))))

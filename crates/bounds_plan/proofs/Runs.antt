@@ -21,7 +21,7 @@ use Rattle.mx_base.proofs.BoundsLemmas.{is_outside-leaving_value}
 use Rattle.fat_ir.specs.Calls.{with_turns, with_data_sp}
 use Rattle.fat_ir.specs.Step.{Located, ObjectAt, FunctionAt, served_in_c}
 use Rattle.fat_ir.specs.Functions.{Target, OfC, Outside}
-use Rattle.bounds_plan.specs.Core.{Scalar, NumberExpr, Word, Variable, Assign, Operate, Compare, Convert, AsNumber, Load, Store, Update, UpdateAt, And, Or, Choose, Call, Serve, Ask, PointerExpr, Null, FromInteger, Function, Object, InFrame, VariablePtr, AssignPtr, Member, Element, LoadPtr, StorePtr, Advance, AdvanceAt, ChoosePtr, CallPtr, Alloc, SetBounds, NarrowBounds, CopyBounds, InitBounds, BoundOf, Arguments, NoMore, WithNumber, WithPointer, Effect, Nothing, OfNumber as ForNumber, OfPointer as ForPointer, CopyStruct, Statement, Skip, Do, Then, If, While, DoWhile, For, Break, Continue, Return, ReturnNumber, ReturnPtr}
+use Rattle.bounds_plan.specs.Core.{Scalar, NumberExpr, Word, Variable, Assign, Operate, Compare, Convert, AsNumber, Load, Store, Update, UpdateAt, And, Or, Choose, Call, Serve, Ask, PointerExpr, Null, FromInteger, Function, Object, InFrame, VariablePtr, AssignPtr, Member, Element, ElementAfter, LoadPtr, StorePtr, Advance, AdvanceAt, ChoosePtr, CallPtr, Alloc, SetBounds, NarrowBounds, CopyBounds, InitBounds, BoundOf, Arguments, NoMore, WithNumber, WithPointer, Effect, Nothing, OfNumber as ForNumber, OfPointer as ForPointer, CopyStruct, Statement, Skip, Do, Then, If, While, DoWhile, For, Break, Continue, Return, ReturnNumber, ReturnPtr}
 use Rattle.bounds_plan.specs.State.{Pointer, Passed, OfNumber, OfPointer, State, Ended, Done, Stopped, M, bind, ◌>>=◌, ◌>>◌, pure, stop, unless, with_made, with_cause}
 use Rattle.bounds_plan.specs.Accesses.{leaves, judge, allow, access, read_number, write_number, with_root, came, read_pointer, went, write_pointer, load, store, load_ptr, store_ptr, with_granule}
 use Rattle.bounds_plan.specs.Expressions.{Answer, Comes, Stops, CalleeOfC, Names, answered_with, calling, pointer_passed, number_passed, served_with, serving, block, choose, divided, operate, object, in_frame, number, pointer, arguments, step}
@@ -223,6 +223,7 @@ module _ (R : Relation) (k : Keeps R) where
     kept-pointer names h (AssignPtr x e) = seq (pointer names e) _ (kept-pointer names h e) (λ p s. k.same s.world s.log)
     kept-pointer names h (Member offset rule e) = seq (pointer names e) _ (kept-pointer names h e) (λ p s. k.same s.world s.log)
     kept-pointer names h (Element minus size e i) = seq (pointer names e) _ (kept-pointer names h e) (λ p. seq (number names i) _ (kept-number names h i) (λ n s. k.same s.world s.log))
+    kept-pointer names h (ElementAfter size i e) = seq (number names i) _ (kept-number names h i) (λ n. seq (pointer names e) _ (kept-pointer names h e) (λ p s. k.same s.world s.log))
     kept-pointer names h (LoadPtr place e) = seq (pointer names e) _ (kept-pointer names h e) (λ p. kept-load_ptr place p)
     kept-pointer names h (StorePtr place to e) = seq (pointer names to) _ (kept-pointer names h to) (λ p. seq (pointer names e) _ (kept-pointer names h e) (λ v. seq_ (store_ptr place p v) _ (kept-store_ptr place p v) (kept-pure v)))
     kept-pointer names h (Advance x minus size i old) = seq (number names i) _ (kept-number names h i) (λ n s. k.same s.world s.log)

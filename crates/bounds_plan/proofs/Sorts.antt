@@ -5,7 +5,7 @@ use Rattle.narrowing.specs.declared.member.Rule.{Rule}
 use Rattle.narrowing.specs.declared.member.Rule.TheVariants.{Keep, Meet}
 use Rattle.fat_ir.specs.declared.step.FatStep.{FatStep}
 use Rattle.fat_ir.specs.declared.step.FatStep.TheVariants as s
-use Rattle.bounds_plan.specs.Core.{NumberExpr, Word, Variable, Assign, Operate, Compare, Convert, AsNumber, Load, Store, Update, UpdateAt, And, Or, Choose, Call, Serve, Ask, PointerExpr, Null, FromInteger, Function, Object, InFrame, VariablePtr, AssignPtr, Member, Element, LoadPtr, StorePtr, Advance, AdvanceAt, ChoosePtr, CallPtr, Alloc, SetBounds, NarrowBounds, CopyBounds, InitBounds, BoundOf, Arguments, NoMore, WithNumber, WithPointer, Scalar, Effect, Nothing, OfNumber as ForNumber, OfPointer as ForPointer, CopyStruct, Statement, Skip, Do, Then, If, While, DoWhile, For, Break, Continue, Return, ReturnNumber, ReturnPtr}
+use Rattle.bounds_plan.specs.Core.{NumberExpr, Word, Variable, Assign, Operate, Compare, Convert, AsNumber, Load, Store, Update, UpdateAt, And, Or, Choose, Call, Serve, Ask, PointerExpr, Null, FromInteger, Function, Object, InFrame, VariablePtr, AssignPtr, Member, Element, ElementAfter, LoadPtr, StorePtr, Advance, AdvanceAt, ChoosePtr, CallPtr, Alloc, SetBounds, NarrowBounds, CopyBounds, InitBounds, BoundOf, Arguments, NoMore, WithNumber, WithPointer, Scalar, Effect, Nothing, OfNumber as ForNumber, OfPointer as ForPointer, CopyStruct, Statement, Skip, Do, Then, If, While, DoWhile, For, Break, Continue, Return, ReturnNumber, ReturnPtr}
 use Rattle.bounds_plan.specs.Code.{labels, labels_ptr, labels_of, before_or_after, arguments_at, ruled, code, code_ptr, codes, copied, copied_all, code_effect, code_of, arrivals, arrived, in_turn, most_pairs, fat_function}
 use Rattle.bounds_plan.specs.Follows.{Fits, FitsPtr, FitsAll, FitsEffect, FitsStatement, IsNumber, IsPointer}
 use Rattle.std.specs.Prelude.{slice_index_or, get_or, length}
@@ -80,6 +80,7 @@ module _ (private : ℕ) (sorts : ℕ → Bool) (takes : ℕ → ℕ) (N B : ℕ
     some_ptr (AssignPtr x e) = some_ptr e
     some_ptr (Member offset rule p) = omega arith
     some_ptr (Element minus size p i) = omega arith
+    some_ptr (ElementAfter size i p) = omega arith
     some_ptr (LoadPtr place p) = some_ptr p
     some_ptr (StorePtr place p e) = let h = some_ptr p in omega (arith, h)
     some_ptr (Advance x minus size i old) = omega arith
@@ -189,6 +190,12 @@ module _ (private : ℕ) (sorts : ℕ → Bool) (takes : ℕ → ℕ) (N B : ℕ
         let b = second d n (omega arith) t in
         let c = third d n (omega arith) t in
         both (code_ptr p d l) _ (right_ptr p d l f.0 (fewer d n (pairs_ptr p) (omega arith) t)) (both (code i (d + 2) (l + labels_ptr p)) _ (right i (d + 2) (l + labels_ptr p) f.1 (beyond d n (pairs i) (omega arith) t)) (c.0, ((b.0, b.0, c.0), ((a.0, a.0, b.0), tt))))
+    right_ptr (ElementAfter size i p) d l f t =
+        let n = pairs_ptr (ElementAfter size i p) in
+        let a = first d n (omega arith) t in
+        let b = second d n (omega arith) t in
+        let c = third d n (omega arith) t in
+        both (code i d l) _ (right i d l f.0 (fewer d n (pairs i) (omega arith) t)) (both (code_ptr p (d + 2) (l + labels i)) _ (right_ptr p (d + 2) (l + labels i) f.1 (beyond d n (pairs_ptr p) (omega arith) t)) (c.0, ((a.0, a.0, c.0), ((a.0, b.0, a.0), (inr (a.1, b.1), tt)))))
     right_ptr (LoadPtr place p) d l f t = let a = first d (pairs_ptr p) (some_ptr p) t in both (code_ptr p d l) _ (right_ptr p d l f t) (a, ((a.0, a.0, a.1), tt))
     right_ptr (StorePtr place p e) d l f t =
         let n = pairs_ptr (StorePtr place p e) in

@@ -11,7 +11,7 @@ use Rattle.fat_ir.specs.declared.program.FatFun.{FatFun}
 use Rattle.fat_ir.specs.declared.step.FatStep.{FatStep}
 use Rattle.fat_ir.specs.declared.step.FatStep.TheVariants as s
 use Rattle.fat_ir.specs.Functions.{Parameter as FatParameter}
-use Rattle.bounds_plan.specs.Core.{NumberExpr, Word, Variable, Assign, Operate, Compare, Convert, AsNumber, Load, Store, Update, UpdateAt, And, Or, Choose, Call, Serve, Ask, PointerExpr, Null, FromInteger, Function, Object, InFrame, VariablePtr, AssignPtr, Member, Element, LoadPtr, StorePtr, Advance, AdvanceAt, ChoosePtr, CallPtr, Alloc, SetBounds, NarrowBounds, CopyBounds, InitBounds, BoundOf, Arguments, NoMore, WithNumber, WithPointer, Scalar, Effect, Nothing, OfNumber, OfPointer, CopyStruct, Statement, Skip, Do, Then, If, While, DoWhile, For, Break, Continue, Return, ReturnNumber, ReturnPtr}
+use Rattle.bounds_plan.specs.Core.{NumberExpr, Word, Variable, Assign, Operate, Compare, Convert, AsNumber, Load, Store, Update, UpdateAt, And, Or, Choose, Call, Serve, Ask, PointerExpr, Null, FromInteger, Function, Object, InFrame, VariablePtr, AssignPtr, Member, Element, ElementAfter, LoadPtr, StorePtr, Advance, AdvanceAt, ChoosePtr, CallPtr, Alloc, SetBounds, NarrowBounds, CopyBounds, InitBounds, BoundOf, Arguments, NoMore, WithNumber, WithPointer, Scalar, Effect, Nothing, OfNumber, OfPointer, CopyStruct, Statement, Skip, Do, Then, If, While, DoWhile, For, Break, Continue, Return, ReturnNumber, ReturnPtr}
 use Rattle.bounds_plan.specs.Functions.{Parameter, Private, Framed, FunctionOfC}
 
 -- ---- the place of an operator among the operators
@@ -74,6 +74,7 @@ abbrev mutual
   labels_ptr (AssignPtr x e) = labels_ptr e
   labels_ptr (Member offset rule p) = labels_ptr p
   labels_ptr (Element minus size p i) = labels_ptr p + labels i
+  labels_ptr (ElementAfter size i p) = labels i + labels_ptr p
   labels_ptr (LoadPtr place p) = labels_ptr p
   labels_ptr (StorePtr place p e) = labels_ptr p + labels_ptr e
   labels_ptr (Advance x minus size i old) = labels i
@@ -153,6 +154,7 @@ abbrev mutual
   code_ptr (AssignPtr x e) d l = code_ptr e d l ++ (s.Copy x d ∷ s.Copy (x + 1) (d + 1) ∷ [])
   code_ptr (Member offset rule p) d l = code_ptr p d l ++ (ruled rule d ++ offset_by offset d d (d + 2))
   code_ptr (Element minus size p i) d l = code_ptr p d l ++ (code i (d + 2) (l + labels_ptr p) ++ (scaled size (d + 2) (d + 4) ++ (s.Arith d (plus_or_minus minus) U64 d (d + 2) ∷ [])))
+  code_ptr (ElementAfter size i p) d l = code i d l ++ (code_ptr p (d + 2) (l + labels i) ++ (scaled size d (d + 4) ++ (s.Arith d plus U64 (d + 2) d ∷ s.Copy (d + 1) (d + 2 + 1) ∷ [])))
   code_ptr (LoadPtr place p) d l = code_ptr p d l ++ (s.Judge d 8 (d + 1) false place ∷ s.LoadPtr d d (d + 1) ∷ [])
   code_ptr (StorePtr place p e) d l = code_ptr p d l ++ (code_ptr e (d + 2) (l + labels_ptr p) ++ (s.Judge d 8 (d + 1) true place ∷ s.StorePtr d (d + 2) (d + 2 + 1) ∷ s.Copy d (d + 2) ∷ s.Copy (d + 1) (d + 2 + 1) ∷ []))
   code_ptr (Advance x minus size i old) d l = code i d l ++ (scaled size d (d + 2) ++ (

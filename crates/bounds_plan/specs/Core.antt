@@ -52,6 +52,8 @@ mutual
     -- a member of the struct at p, and an element or a pointer sum, with elements of this size
     Member : (offset : ℕ) → (rule : Rule) → (p : PointerExpr) → PointerExpr
     Element : (minus : Bool) → (size : ℕ) → (p : PointerExpr) → (i : NumberExpr) → PointerExpr
+    -- a sum whose integer stands before its pointer, and is evaluated before it
+    ElementAfter : (size : ℕ) → (i : NumberExpr) → (p : PointerExpr) → PointerExpr
     -- a pointer is read from memory, or written there
     LoadPtr : (place : Place) → (p : PointerExpr) → PointerExpr
     StorePtr : (place : Place) → (p e : PointerExpr) → PointerExpr

@@ -1,5 +1,5 @@
 -- What expressions do. Operands are evaluated from left to right.
-use Rattle.std.specs.Prelude.{ℕ, zero, suc, ◌+◌, ◌*◌, ◌-◌, ◌%◌, Bool, if◌then◌else◌, Option, None, Some, List, [], ◌∷◌}
+use Rattle.std.specs.Prelude.{ℕ, zero, suc, ◌+◌, ◌*◌, ◌-◌, ◌%◌, Bool, false, if◌then◌else◌, Option, None, Some, List, [], ◌∷◌}
 use Rattle.mx_base.specs.declared.limits.Bounds.{Bounds as BoundsPair}
 use Rattle.mx_base.specs.declared.numbers.IntKind.{IntKind}
 use Rattle.mx_base.specs.Numbers.{extended}
@@ -11,7 +11,7 @@ use Rattle.mx_base.specs.StopOfC.{StopOfC, Exit, Divide, StackOver}
 use Rattle.mx_base.specs.World.{World, Log, NullConstant, FromInteger as WasInteger, FunctionAddress, NullBlock, InitBuiltin}
 use Rattle.narrowing.specs.Member.{bounds_by}
 use Rattle.fat_ir.specs.Step.{Located, ObjectAt, FunctionAt, stop_by, served_in_c}
-use Rattle.bounds_plan.specs.Core.{NumberExpr, Word, Variable, Assign, Operate, Compare, Convert, AsNumber, Load, Store, Update, UpdateAt, And, Or, Choose, Call, Serve, Ask, PointerExpr, Null, FromInteger, Function, Object, InFrame, VariablePtr, AssignPtr, Member, Element, LoadPtr, StorePtr, Advance, AdvanceAt, ChoosePtr, CallPtr, Alloc, SetBounds, NarrowBounds, CopyBounds, InitBounds, BoundOf, Arguments, NoMore, WithNumber, WithPointer}
+use Rattle.bounds_plan.specs.Core.{NumberExpr, Word, Variable, Assign, Operate, Compare, Convert, AsNumber, Load, Store, Update, UpdateAt, And, Or, Choose, Call, Serve, Ask, PointerExpr, Null, FromInteger, Function, Object, InFrame, VariablePtr, AssignPtr, Member, Element, ElementAfter, LoadPtr, StorePtr, Advance, AdvanceAt, ChoosePtr, CallPtr, Alloc, SetBounds, NarrowBounds, CopyBounds, InitBounds, BoundOf, Arguments, NoMore, WithNumber, WithPointer}
 use Rattle.bounds_plan.specs.State.{Pointer, Passed, OfNumber, OfPointer, Done, Stopped, M, ◌>>=◌, ◌>>◌, pure, stop, making, full_by, made_before, variable, set_variable, variable_ptr, set_variable_ptr}
 use Rattle.bounds_plan.specs.Accesses.{load, store, load_ptr, store_ptr}
 
@@ -189,6 +189,10 @@ abbrev mutual
     p ← pointer names e
     n ← number names i
     pure (step minus size p n)
+  pointer names (ElementAfter size i e) = do
+    n ← number names i
+    p ← pointer names e
+    pure (step false size p n)
   pointer names (LoadPtr place e) = do
     p ← pointer names e
     load_ptr place p

@@ -7,7 +7,7 @@ use Rattle.fat_ir.specs.declared.step.FatStep.TheVariants.{Label}
 use Rattle.fat_ir.specs.Step.{Symbols, Next}
 use Rattle.fat_ir.specs.Run.{steps_run}
 use Rattle.fat_ir.specs.Calls.{Callee, Outcome, Comes as ComesBack, Stops as StopsAt}
-use Rattle.bounds_plan.specs.Core.{NumberExpr, Word, Variable, Assign, Operate, Compare, Convert, AsNumber, Load, Store, Update, UpdateAt, And, Or, Choose, Call, Serve, Ask, PointerExpr, Null, FromInteger, Function, Object, InFrame, VariablePtr, AssignPtr, Member, Element, LoadPtr, StorePtr, Advance, AdvanceAt, ChoosePtr, CallPtr, Alloc, SetBounds, NarrowBounds, CopyBounds, InitBounds, BoundOf, Arguments, NoMore, WithNumber, WithPointer, Effect, Nothing, OfNumber as ForNumber, OfPointer as ForPointer, CopyStruct, Statement, Skip, Do, Then, If, While, DoWhile, For, Break, Continue, Return, ReturnNumber, ReturnPtr}
+use Rattle.bounds_plan.specs.Core.{NumberExpr, Word, Variable, Assign, Operate, Compare, Convert, AsNumber, Load, Store, Update, UpdateAt, And, Or, Choose, Call, Serve, Ask, PointerExpr, Null, FromInteger, Function, Object, InFrame, VariablePtr, AssignPtr, Member, Element, ElementAfter, LoadPtr, StorePtr, Advance, AdvanceAt, ChoosePtr, CallPtr, Alloc, SetBounds, NarrowBounds, CopyBounds, InitBounds, BoundOf, Arguments, NoMore, WithNumber, WithPointer, Effect, Nothing, OfNumber as ForNumber, OfPointer as ForPointer, CopyStruct, Statement, Skip, Do, Then, If, While, DoWhile, For, Break, Continue, Return, ReturnNumber, ReturnPtr}
 use Rattle.bounds_plan.specs.State.{Passed, OfNumber, OfPointer, State, ◌>>=◌}
 use Rattle.bounds_plan.specs.Expressions.{Answer, Comes, Stops, CalleeOfC, Names}
 use Rattle.bounds_plan.specs.Statements.{statement}
@@ -61,6 +61,7 @@ abbrev mutual
   FitsPtr private is_bounds takes (AssignPtr x e) = IsPointer private is_bounds x × FitsPtr private is_bounds takes e
   FitsPtr private is_bounds takes (Member offset rule p) = FitsPtr private is_bounds takes p
   FitsPtr private is_bounds takes (Element minus size p i) = FitsPtr private is_bounds takes p × Fits private is_bounds takes i
+  FitsPtr private is_bounds takes (ElementAfter size i p) = Fits private is_bounds takes i × FitsPtr private is_bounds takes p
   FitsPtr private is_bounds takes (LoadPtr place p) = FitsPtr private is_bounds takes p
   FitsPtr private is_bounds takes (StorePtr place p e) = FitsPtr private is_bounds takes p × FitsPtr private is_bounds takes e
   FitsPtr private is_bounds takes (Advance x minus size i old) = IsPointer private is_bounds x × Fits private is_bounds takes i

@@ -5,7 +5,7 @@ use Rattle.mx_base.specs.Bounds.{full_bounds, moved, bounds_at}
 use Rattle.mx_base.specs.BoundsStore.{Kept, BoundsStore}
 use Rattle.mx_base.specs.World.{World, Cause, Root, MadeAt, FullBy, Rooted, Traced, Log}
 use Rattle.fat_ir.specs.Step.{Located, ObjectAt, FunctionAt}
-use Rattle.bounds_plan.specs.Core.{NumberExpr, Word, Variable, Assign, Operate, Compare, Convert, AsNumber, Load, Store, Update, UpdateAt, And, Or, Choose, Call, Serve, Ask, PointerExpr, Null, FromInteger, Function, Object, InFrame, VariablePtr, AssignPtr, Member, Element, LoadPtr, StorePtr, Advance, AdvanceAt, ChoosePtr, CallPtr, Alloc, SetBounds, NarrowBounds, CopyBounds, InitBounds, BoundOf, Arguments, NoMore, WithNumber, WithPointer, Effect, Nothing, OfNumber as ForNumber, OfPointer as ForPointer, CopyStruct, Statement, Skip, Do, Then, If, While, DoWhile, For, Break, Continue, Return, ReturnNumber, ReturnPtr}
+use Rattle.bounds_plan.specs.Core.{NumberExpr, Word, Variable, Assign, Operate, Compare, Convert, AsNumber, Load, Store, Update, UpdateAt, And, Or, Choose, Call, Serve, Ask, PointerExpr, Null, FromInteger, Function, Object, InFrame, VariablePtr, AssignPtr, Member, Element, ElementAfter, LoadPtr, StorePtr, Advance, AdvanceAt, ChoosePtr, CallPtr, Alloc, SetBounds, NarrowBounds, CopyBounds, InitBounds, BoundOf, Arguments, NoMore, WithNumber, WithPointer, Effect, Nothing, OfNumber as ForNumber, OfPointer as ForPointer, CopyStruct, Statement, Skip, Do, Then, If, While, DoWhile, For, Break, Continue, Return, ReturnNumber, ReturnPtr}
 use Rattle.bounds_plan.specs.State.{Passed, OfNumber, OfPointer}
 use Rattle.bounds_plan.specs.Expressions.{Answer, Comes, Stops, CalleeOfC}
 use Rattle.bounds_plan.specs.Functions.{Parameter, Private, Framed, Framed_variable, Linked}
@@ -143,6 +143,7 @@ abbrev mutual
   NamesPtr S F P (AssignPtr x e) = P x × NamesPtr S F P e
   NamesPtr S F P (Member offset rule p) = NamesPtr S F P p
   NamesPtr S F P (Element minus size p i) = NamesPtr S F P p × Names S F P i
+  NamesPtr S F P (ElementAfter size i p) = Names S F P i × NamesPtr S F P p
   NamesPtr S F P (LoadPtr place p) = NamesPtr S F P p
   NamesPtr S F P (StorePtr place p e) = NamesPtr S F P p × NamesPtr S F P e
   NamesPtr S F P (Advance x minus size i old) = P x × Names S F P i

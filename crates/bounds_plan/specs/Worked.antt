@@ -13,7 +13,7 @@ use Rattle.fat_ir.specs.Step.{ObjectAt}
 use Rattle.fat_ir.specs.Calls.{Outcome, Comes as ComesBack, Stops as StopsAt, Stuck, Callee}
 use Rattle.fat_ir.specs.Functions.{OfC, Outside, Linked as FatLinked, calls as steps_calls, exited as exited_steps}
 use Rattle.bounds_plan.specs.Code.{fat_function, fat_parameters}
-use Rattle.bounds_plan.specs.Core.{NumberExpr, Word, Variable, Assign, Operate, Compare, Convert, AsNumber, Load, Store, Update, Call, Serve, Ask, PointerExpr, FromInteger, Object, VariablePtr, AssignPtr, Member, Element, InFrame, LoadPtr, StorePtr, Alloc, InitBounds, BoundOf, NoMore, WithNumber, OfNumber, OfPointer, CopyStruct, Statement, Skip, Do, Then, If, DoWhile, For, Continue, ReturnNumber}
+use Rattle.bounds_plan.specs.Core.{NumberExpr, Word, Variable, Assign, Operate, Compare, Convert, AsNumber, Load, Store, Update, Call, Serve, Ask, PointerExpr, FromInteger, Object, VariablePtr, AssignPtr, Member, Element, ElementAfter, InFrame, LoadPtr, StorePtr, Alloc, InitBounds, BoundOf, NoMore, WithNumber, OfNumber, OfPointer, CopyStruct, Statement, Skip, Do, Then, If, DoWhile, For, Continue, ReturnNumber}
 use Rattle.bounds_plan.specs.Expressions.{Answer, Comes, Stops, CalleeOfC}
 use Rattle.bounds_plan.specs.Functions.{Private, Framed, FunctionOfC, Linked, calls, exited}
 use Rattle.bounds_plan.specs.Outside.{lends, lends_by_steps}
@@ -316,3 +316,13 @@ run_borrowing n turns = told (exited (calls (borrowing n) (lends 0x2000_0010 0x2
 
 abbrev pub run_borrowing_steps : (n turns : ℕ) → Option Told
 run_borrowing_steps n turns = told_of_steps (exited_steps (steps_calls (λ f. compiled (borrowing n f)) (lends_by_steps 0x2000_0010 0x2000_0000 (pair 0x2000_0000 0x2000_0003)) 4096 1 [] (world_at_start no_bytes [] turns)))
+
+-- ---- char a[4];
+-- int main(void){ int i; *((i=1)+(a+i))=7; put(a[2]); return 0; }, i being value 2
+
+abbrev pub adds_in_order : Statement
+adds_in_order = in_order (
+    does (Store I8 (at 2 24) (ElementAfter 1 (Assign 2 (Word 1)) (Element false 1 array (Variable 2))) (Convert I8 (Word 7)))
+    ∷ does (Serve 1 (Load I8 (at 2 46) (Element false 1 array (Word 2))))
+    ∷ ends_with_0
+    ∷ [])

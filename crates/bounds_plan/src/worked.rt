@@ -3,7 +3,7 @@
 ghost use Rattle.std.specs.Prelude.{◌≡◌, Bool, true, false, [], ◌∷◌, codes};
 ghost use Rattle.mx_base.specs.Bounds.{bounds_at};
 ghost use Rattle.mx_base.specs.StopOfC.{Exit, Bounds, OutOfTurns, Divide, StackOver, Unmapped, AtPlace};
-ghost use Rattle.bounds_plan.specs.Worked.{ends, read, written, pair, at, run_alone, run_steps, first_object, array_and_pointer, pairs_of_pointers, prints_7, writes_element, reads_past_end, fills_block, keeps_pointer, spreads_pointers, reads_last_byte, prints_members, copies_pointers, counts, run_descent, run_descent_steps, divides_by_0, frees_twice, skips_2, run_reading, run_reading_steps, run_borrowing, run_borrowing_steps};
+ghost use Rattle.bounds_plan.specs.Worked.{ends, read, written, pair, at, run_alone, run_steps, first_object, array_and_pointer, pairs_of_pointers, prints_7, writes_element, reads_past_end, fills_block, keeps_pointer, spreads_pointers, reads_last_byte, prints_members, copies_pointers, counts, run_descent, run_descent_steps, divides_by_0, frees_twice, skips_2, adds_in_order, run_reading, run_reading_steps, run_borrowing, run_borrowing_steps};
 
 /// How small programs end: by which stop, with which output, with how many turns left, after which accesses, and with
 /// which megabytes asked for bounds. The sources stand beside their core trees.
@@ -30,6 +30,7 @@ pub fn small_programs_mean_so()
     ensures parameter { run_reading 7 10 ≡ ends (Exit 7) [] 6 (written 0x53ff_fff0 4 ∷ read 0x53ff_fff0 4 ∷ []) [] }
     ensures lent { run_borrowing 3 10 ≡ ends (Exit 0) [] 5 (written 0x2000_0003 1 ∷ []) (0x200 ∷ []) }
     ensures lent_outside { run_borrowing 4 10 ≡ ends (Bounds 0x2000_0004 (pair 0x2000_0000 0x2000_0003) (AtPlace (at 1 39))) [] 7 [] (0x200 ∷ []) }
+    ensures added_in_order { run_alone first_object (bounds_at 0x2000_0000 4 ∷ []) adds_in_order 10 ≡ ends (Exit 0) (7 ∷ []) 8 (written 0x2000_0002 1 ∷ read 0x2000_0002 1 ∷ []) [] }
     ensures freed_twice { run_alone first_object [] frees_twice 10 ≡ ends (Exit 0) (codes "0\n-1\n-1\n") 8 [] [] }
 {}
 
@@ -57,5 +58,6 @@ pub fn compiled_programs_run_so()
     ensures parameter { run_reading_steps 7 10 ≡ run_reading 7 10 }
     ensures lent { run_borrowing_steps 3 10 ≡ run_borrowing 3 10 }
     ensures lent_outside { run_borrowing_steps 4 10 ≡ run_borrowing 4 10 }
+    ensures added_in_order { run_steps first_object adds_in_order 10 ≡ run_alone first_object (bounds_at 0x2000_0000 4 ∷ []) adds_in_order 10 }
     ensures freed_twice { run_steps first_object frees_twice 10 ≡ run_alone first_object [] frees_twice 10 }
 {}

@@ -104,3 +104,7 @@ returns-clause-lent c = refl
 pub returns-clause-lent_outside : goal.returns-clause-lent_outside
 unfolding residue as_signed number_of value_of wrapped word_of extended arithmetic compares word_arithmetic word_compares moved last_byte leaving_value bounds_at is_sealed is_open_to_read is_open_to_write number_at with_number first_refused first_refused_around refusal touched_with keep_bounds load_bounds bounds_for rounded allocated freed served c_service pointer_written pointer_read digits stepped arithmetic_at comparison_at
 returns-clause-lent_outside c = refl
+
+pub returns-clause-added_in_order : goal.returns-clause-added_in_order
+unfolding residue as_signed number_of value_of wrapped word_of extended arithmetic compares word_arithmetic word_compares moved last_byte leaving_value bounds_at is_sealed is_open_to_read is_open_to_write number_at with_number first_refused first_refused_around refusal touched_with keep_bounds load_bounds bounds_for rounded allocated freed served c_service pointer_written pointer_read digits stepped arithmetic_at comparison_at
+returns-clause-added_in_order c = refl
