@@ -14,7 +14,7 @@ use Rattle.fat_ir.specs.Calls.{Outcome, Comes, Stops, Stuck, Callee, with_turns,
 use Rattle.mx_base.specs.StopOfC.{StackOver as StackIsOver}
 use Rattle.fat_ir.specs.Step.{served_in_c}
 use Rattle.fat_ir.specs.Functions.{Linked, body_run, calls}
-use Rattle.fat_ir.specs.Laws.{Leads, NoMoreTurns, OutputGrows, AccessesGrow, Traced, NoneRefused, NotWritten, SameFrame, Anywhere}
+use Rattle.fat_ir.specs.Laws.{Leads, NoMoreTurns, OutputGrows, AccessesGrow, Traced, AccessesAllowed, Events, InPieces, PieceOfSteps, Joined, NoneRefused, NotWritten, SameFrame, Anywhere}
 use Rattle.fat_ir.proofs.Runs.{Keeps}
 
 pub fewer : Keeps NoMoreTurns NoMoreTurns
@@ -181,6 +181,47 @@ all_traced = record {
 
 pub traced_framed : (w : World) (sp : ℕ) → Traced w (with_data_sp sp w)
 traced_framed w sp = no_access w _ refl refl
+
+-- ---- the same where memory is changed outside too
+
+allowed_of : (w u : World) → Traced w u → AccessesAllowed w u
+allowed_of w u h = record { more = h.more; is = h.is; allowed = h.allowed }
+
+allowed_join : (w u v : World) → AccessesAllowed w u → AccessesAllowed u v → AccessesAllowed w v
+allowed_join w u v h g = record { more = h.more ++ g.more; is = g.is ∙ ap (λ us. us ++ g.more) h.is ∙ append_assoc w.accesses h.more g.more; allowed = none-refused h.more g.more h.allowed g.allowed }
+
+pub all_allowed : Keeps AccessesAllowed AccessesAllowed
+all_allowed = record {
+  same = λ w. allowed_of w w (all_traced.same w);
+  join = allowed_join;
+  ends = λ w. allowed_of w w (all_traced.same w);
+  last = allowed_join;
+  read = λ w n a e. allowed_of w _ (read_traced w n a e);
+  wrote = λ w n a v e. allowed_of w _ (write_traced w n a v e);
+  stored = λ w s. allowed_of w _ (all_traced.stored w s);
+  served = λ w number word answer g e. allowed_of w _ (all_traced.served w number word answer g e);
+  turned = λ w n e. allowed_of w _ (all_traced.turned w n e);
+}
+
+pub allowed_framed : (w : World) (sp : ℕ) → AccessesAllowed w (with_data_sp sp w)
+allowed_framed w sp = allowed_of w _ (traced_framed w sp)
+
+module _ (event : Events) where
+  pub in_pieces : Keeps (InPieces event) (InPieces event)
+  in_pieces = record {
+    same = λ w. PieceOfSteps w w (all_traced.same w);
+    join = λ w u v h g. Joined w u v h g;
+    ends = λ w. PieceOfSteps w w (all_traced.same w);
+    last = λ w u v h g. Joined w u v h g;
+    read = λ w n a e. PieceOfSteps w _ (read_traced w n a e);
+    wrote = λ w n a v e. PieceOfSteps w _ (write_traced w n a v e);
+    stored = λ w s. PieceOfSteps w _ (all_traced.stored w s);
+    served = λ w number word answer g e. PieceOfSteps w _ (all_traced.served w number word answer g e);
+    turned = λ w n e. PieceOfSteps w _ (all_traced.turned w n e);
+  }
+
+  pub pieces_framed : (w : World) (sp : ℕ) → InPieces event w (with_data_sp sp w)
+  pieces_framed w sp = PieceOfSteps w _ (traced_framed w sp)
 
 -- ---- the data stack pointer, where functions come back
 

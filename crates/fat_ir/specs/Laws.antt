@@ -62,6 +62,23 @@ pub record Traced (before after : World) : Type 0 where
   pub allowed : NoneRefused more
   pub others : (x : ℕ) → NotWritten x more → after.bytes x ≡ before.bytes x
 
+-- the accesses between two worlds: none was refused, whatever else changed memory
+pub record AccessesAllowed (before after : World) : Type 0 where
+  pub more : List Access
+  pub is : after.accesses ≡ before.accesses ++ more
+  pub allowed : NoneRefused more
+
+-- what the events of code outside of a program do to a world, which may be anything; numbers tell which event it is, as those of an
+-- instruction and its registers
+abbrev pub Events : Type 0
+Events = List ℕ → World → World
+
+-- a run goes in pieces, each of which is an event outside, or one of steps, where memory changes by the accesses alone
+pub data InPieces (event : Events) : World → World → Type 0 where
+  PieceOfSteps : (before : World) → (after : World) → (is : Traced before after) → InPieces event before after
+  EventOutside : (before : World) → (after : World) → (numbers : List ℕ) → (is : event numbers before ≡ after) → InPieces event before after
+  Joined : (before : World) → (middle : World) → (after : World) → (first : InPieces event before middle) → (rest : InPieces event middle after) → InPieces event before after
+
 -- the data frame stands where it stood
 abbrev pub SameFrame : World → World → Type 0
 SameFrame before after = after.data_sp ≡ before.data_sp

@@ -13,7 +13,7 @@ ghost use Rattle.fat_ir.specs.Step.{Symbols, State, Going, Next, To, On, Over, d
 ghost use Rattle.fat_ir.specs.Run.{pass, and_then, followed, steps_run};
 ghost use Rattle.fat_ir.specs.Functions.{Linked, calls};
 ghost use Rattle.fat_ir.specs.Named.{writes};
-ghost use Rattle.fat_ir.specs.Laws.{LeftByCalls, LeftOutside, Leaves, FramesGivenBack, NoMoreTurns, OutputGrows, AccessesGrow, Traced, passes_on, WorldAfter, ValuesAfter, IsNone, is_quiet, LeavesMemory, LacksLabel};
+ghost use Rattle.fat_ir.specs.Laws.{LeftByCalls, LeftOutside, Leaves, FramesGivenBack, NoMoreTurns, OutputGrows, AccessesGrow, Traced, AccessesAllowed, Events, InPieces, passes_on, WorldAfter, ValuesAfter, IsNone, is_quiet, LeavesMemory, LacksLabel};
 
 /// Whatever is called leaves no more turns than there were: then no run of steps does, and no run of a program.
 pub fn turns_never_grow()
@@ -30,11 +30,20 @@ pub fn output_only_grows()
     ensures accesses_of_programs { (program : ℕ → Linked) (outside : Callee → Callee) → LeftOutside AccessesGrow outside → (depth : ℕ) → LeftByCalls AccessesGrow (calls program outside depth) }
 {}
 
+/// No access that a run of steps notes was refused, if whatever is called keeps to that.
+pub fn accesses_are_allowed()
+    ensures steps { (symbols : Symbols) → LeftByCalls AccessesAllowed symbols.call → (private : ℕ) (steps : List FatStep) (going : Going) (s : State) → Leaves (AccessesAllowed s.world) (steps_run symbols private steps going s) }
+    ensures programs { (program : ℕ → Linked) (outside : Callee → Callee) → LeftOutside AccessesAllowed outside → (depth : ℕ) → LeftByCalls AccessesAllowed (calls program outside depth) }
+{}
+
 /// Memory changes only by the accesses that are noted: between the world before a run of steps and the world after it, none
-/// of them was refused, and every byte that none of them wrote is as before, if whatever is called keeps to that.
+/// of them was refused, and every byte that none of them wrote is as before, if whatever is called keeps to that. Where code
+/// outside changes memory too, a run goes in pieces, each of which is an event of that code or a piece of steps between such
+/// events.
 pub fn accesses_are_traced()
     ensures steps { (symbols : Symbols) → LeftByCalls Traced symbols.call → (private : ℕ) (steps : List FatStep) (going : Going) (s : State) → Leaves (Traced s.world) (steps_run symbols private steps going s) }
     ensures programs { (program : ℕ → Linked) (outside : Callee → Callee) → LeftOutside Traced outside → (depth : ℕ) → LeftByCalls Traced (calls program outside depth) }
+    ensures between { (event : Events) (program : ℕ → Linked) (outside : Callee → Callee) → LeftOutside (InPieces event) outside → (depth : ℕ) → LeftByCalls (InPieces event) (calls program outside depth) }
 {}
 
 /// What is outside of a program can keep to all of these: for one, a function that calls the C function of its own number
@@ -43,7 +52,9 @@ pub fn outside_can_keep_to_laws()
     ensures turns { LeftOutside NoMoreTurns passes_on }
     ensures output { LeftOutside OutputGrows passes_on }
     ensures accesses { LeftOutside AccessesGrow passes_on }
+    ensures allowed { LeftOutside AccessesAllowed passes_on }
     ensures traced { LeftOutside Traced passes_on }
+    ensures pieces { (event : Events) → LeftOutside (InPieces event) passes_on }
 {}
 
 /// While steps run, the data frame of their function stays where it is, if whatever is called gives its own back; and a
