@@ -2,6 +2,14 @@ pub mod Accesses
 pub mod Code
 pub mod Compiled
 pub mod Core
+pub mod ElaborateExpressions
+pub mod ElaborateFunctions
+pub mod ElaborateInitialisers
+pub mod ElaboratePlaces
+pub mod ElaborateScalars
+pub mod ElaborateSource
+pub mod ElaborateStatements
+pub mod ElaborateTypes
 pub mod Expressions
 pub mod Follows
 pub mod Functions

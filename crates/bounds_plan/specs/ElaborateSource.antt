@@ -1,0 +1,101 @@
+-- What is known of a source beside its tree when it is elaborated: the types and meanings that its nodes have in tree order, and where its
+-- variables and literals stand. Tree order has children before their parent and goes from left to right.
+use Rattle.std.specs.Prelude.{ℕ, ◌+◌, List, [], ◌∷◌, slice_index_or, slice_index}
+use Rattle.mx_base.specs.declared.settings.Flags.{Flags}
+use Rattle.c_types.specs.Types.{CType, Void, StructType}
+
+-- the meaning of a name: the global or function that was declared as the how-manieth of the source, the how-manieth parameter or local of
+-- the function, or the place of a service or builtin among those
+pub data Meant : Type 0 where
+  Global : (number : ℕ) → Meant
+  Local : (number : ℕ) → Meant
+  Fun : (number : ℕ) → Meant
+  Service : (number : ℕ) → Meant
+  Builtin : (number : ℕ) → Meant
+
+-- where a parameter or local stands: in a private variable, which has this place among the values of its function, or at an offset of the
+-- data frame
+pub data Stand : Type 0 where
+  Private : (x : ℕ) → Stand
+  Frame : (offset : ℕ) → Stand
+
+-- of each parameter and local of a function where it stands, and the size of the data frame
+pub record FrameLayout : Type 0 where
+  pub size : ℕ
+  pub stands : List Stand
+
+-- where a source's objects stand: the symbols of its globals and functions by number, that of its literals, the offset of each literal behind
+-- it, and the frames of its functions in the order of their bodies
+pub record SourceLayout : Type 0 where
+  pub globals : List ℕ
+  pub functions : List ℕ
+  pub texts : ℕ
+  pub literals : List ℕ
+  pub frames : List FrameLayout
+
+-- the type of each expression, what each variable's and each called function's name means, and the type of each declaration, in tree order
+pub record Meanings : Type 0 where
+  pub kinds : List CType
+  pub binds : List Meant
+  pub declared : List CType
+
+-- how far the tree was gone through: the number of the next expression, name, declaration and literal, of the function's next local, and of
+-- the next body
+pub record Reached : Type 0 where
+  pub kind : ℕ
+  pub name : ℕ
+  pub declaration : ℕ
+  pub literal : ℕ
+  pub variable : ℕ
+  pub body : ℕ
+
+abbrev pub start : Reached
+start = record { kind = 0; name = 0; declaration = 0; literal = 0; variable = 0; body = 0 }
+
+-- a function by its number: the types of its parameters and of its result
+pub record Signature : Type 0 where
+  pub result : CType
+  pub parameters : List CType
+
+-- all that an expression is elaborated by: the structs, with their members' names, and the functions of its source; its meanings and layout; the
+-- flags; and of the function around it where its variables stand and what it gives
+pub record Around : Type 0 where
+  pub structs : List StructType
+  pub tags : List (List ℕ)
+  pub members : List (List (List ℕ))
+  pub signatures : List Signature
+  pub meanings : Meanings
+  pub layout : SourceLayout
+  pub flags : Flags
+  pub stands : List Stand
+  pub result : CType
+
+-- ---- what is known at a node
+
+abbrev pub kind_at : Around → Reached → CType
+kind_at around r = slice_index_or around.meanings.kinds r.kind Void
+
+abbrev pub bind_at : Around → Reached → Meant
+bind_at around r = slice_index_or around.meanings.binds r.name (Local 0)
+
+abbrev pub declared_at : Around → Reached → CType
+declared_at around r = slice_index_or around.meanings.declared r.declaration Void
+
+abbrev pub literal_at : Around → Reached → ℕ
+literal_at around r = slice_index around.layout.literals r.literal
+
+abbrev pub past_kind : Reached → Reached
+past_kind r = record r { kind = r.kind + 1 }
+
+abbrev pub past_name : Reached → Reached
+past_name r = record r { name = r.name + 1 }
+
+abbrev pub past_literal : Reached → Reached
+past_literal r = record r { literal = r.literal + 1 }
+
+abbrev pub past_declaration : Reached → Reached
+past_declaration r = record r { declaration = r.declaration + 1 }
+
+-- a parameter or local is declared
+abbrev pub past_variable : Reached → Reached
+past_variable r = record r { declaration = r.declaration + 1; variable = r.variable + 1 }
