@@ -3,6 +3,7 @@ mod Effects
 mod Entry
 mod Exprs
 mod Flows
+mod Laid
 mod Fresh
 mod Once
 mod Outside

@@ -13,7 +13,7 @@ use Rattle.c_types.specs.Types.{CType, Void, Int, Pointer, Array, Struct, Struct
 use Rattle.bounds_plan.specs.Core.{NumberExpr, Word, Operate, Compare, And, Or, Choose, Call, Serve, Ask, AsNumber, PointerExpr, Function, Object, ChoosePtr, CallPtr, Alloc, SetBounds, NarrowBounds, CopyBounds, InitBounds, BoundOf, Arguments, NoMore, WithNumber, WithPointer, Effect, OfNumber, OfPointer, CopyStruct}
 use Rattle.bounds_plan.specs.ElaborateScalars.{scalars_of}
 use Rattle.bounds_plan.specs.ElaborateTypes.{Value, Numeric, Address, number_in, pointer_in, Sort, ANumber, APointer, AWhole, NoValue, sort_of, kind_of, target_of, size_in, step_in, promoted, common, done_in, converted, right_operand, wanted_pointer, given, cast_to}
-use Rattle.bounds_plan.specs.ElaborateSource.{Meant, Global, Local, Fun, Service, Builtin, Reached, Signature, Around, kind_at, bind_at, literal_at, past_kind, past_name, past_literal, Private}
+use Rattle.bounds_plan.specs.ElaborateSource.{Meant, Global, Local, Fun, Service, Builtin, Reached, Signature, Around, kind_at, bind_at, literal_at, past_kind, past_name, past_literal, start, stand_of}
 use Rattle.bounds_plan.specs.ElaboratePlaces.{Lvalue, InMemory, address_in, read_as, written_as, number_changed, pointer_changed, takes_away, variable_at, place_among, struct_of, member_at, element_at, element_after}
 
 -- what is found of an expression: its type and value, and its place in the sources; the place that it is, if it is one; what it does as a whole
@@ -50,7 +50,7 @@ a_place type l place after = record { type = type; value = read_as (sort_of type
 -- and no place; a service or builtin has none, and stands only before its arguments
 abbrev pub named : Around → CType → Meant → Place → Reached → Found
 named around type (Global number) place after = a_place type (InMemory (Object (slice_index_or around.layout.globals number 0) 0 (size_in around.structs type))) place after
-named around type (Local number) place after = a_place type (variable_at (slice_index_or around.stands number (Private 0)) (size_in around.structs type)) place after
+named around type (Local number) place after = a_place type (variable_at (stand_of around (Local number)) (size_in around.structs type)) place after
 named around type (Fun number) place after = no_place type (Address (Function (slice_index_or around.layout.functions number 0))) place after
 named around type (Service number) place after = no_place type (Numeric (Word 0)) place after
 named around type (Builtin number) place after = no_place type (Numeric (Word 0)) place after
@@ -198,7 +198,7 @@ called_as NoValue symbol args = Numeric (Call symbol args)
 
 -- an argument of a service or builtin as a number of this type, and as a pointer
 abbrev pub nothing_found : Found
-nothing_found = no_place Void (Numeric (Word 0)) record { file = 0; line = 1; col = 1 } record { kind = 0; name = 0; declaration = 0; literal = 0; variable = 0; body = 0 }
+nothing_found = no_place Void (Numeric (Word 0)) record { file = 0; line = 1; col = 1 } start
 
 abbrev pub number_of_argument : IntKind → ℕ → List Found → NumberExpr
 number_of_argument kind n all = let a = slice_index_or all n nothing_found in converted (kind_of a.type) kind (number_in a.value)

@@ -1,7 +1,5 @@
 -- What the functions of a source are in the core tree. The source is gone through from its front on, and what it has declared so far is known.
-use Rattle.std.specs.Prelude.{ℕ, ◌+◌, ◌-◌, Bool, true, false, if◌then◌else◌, Option, None, Some, List, [], ◌∷◌, ◌++◌, map, length, take, drop, slice_index_or}
-use Rattle.std.specs.List.{list_any}
-use Rattle.std.specs.Str.{bytes_eq}
+use Rattle.std.specs.Prelude.{ℕ, ◌-◌, nat_lt, Bool, true, false, if◌then◌else◌, Option, None, Some, List, [], ◌∷◌, ◌++◌, map, length, take, drop, slice_index_or}
 use Rattle.mx_base.specs.declared.numbers.IntKind.{IntKind}
 use Rattle.mx_base.specs.declared.settings.Flags.{Flags}
 use Rattle.c_tree.specs.declared.tree.Tree.{Tree}
@@ -16,8 +14,8 @@ use Rattle.c_types.specs.Types.{CType, Void, Int, Pointer, Array, Struct, Struct
 use Rattle.bounds_plan.specs.Core.{Null, Statement}
 use Rattle.bounds_plan.specs.Functions.{Parameter, Private as PrivateParameter, Framed, Framed_variable, FunctionOfC}
 use Rattle.bounds_plan.specs.ElaborateTypes.{Sort, ANumber, APointer, AWhole, NoValue, sort_of, size_in}
-use Rattle.bounds_plan.specs.ElaborateSource.{Stand, Private, Frame, FrameLayout, SourceLayout, Meanings, Reached, start, Signature, Around, declared_at, past_declaration, past_variable}
-use Rattle.bounds_plan.specs.ElaboratePlaces.{InMemory, place_among}
+use Rattle.bounds_plan.specs.ElaborateSource.{Stand, Private, Frame, FrameLayout, SourceLayout, Meanings, Reached, start, Signature, Around, declared_at, bind_at, past_declaration, past_member, past_body, function_number}
+use Rattle.bounds_plan.specs.ElaboratePlaces.{InMemory}
 use Rattle.bounds_plan.specs.ElaborateExpressions.{Reading, expression}
 use Rattle.bounds_plan.specs.ElaborateInitialisers.{Filling, initialiser}
 use Rattle.bounds_plan.specs.ElaborateStatements.{Stating, past_counts, maybe, statement_by}
@@ -67,11 +65,9 @@ pub record Defined : Type 0 where
   pub number : ℕ
   pub function : FunctionOfC
 
--- what is known so far; the names of the functions that were declared, by number; how far the tree was gone through; and the functions with
--- a body, in order
+-- what is known so far, how far the tree was gone through, and the functions with a body, in order
 pub record Gone : Type 0 where
   pub around : Around
-  pub names : List (List ℕ)
   pub after : Reached
   pub functions : List Defined
 
@@ -103,14 +99,8 @@ past_initialiser (Some init) around type r = (init around type (InMemory Null) 0
 -- ---- functions
 
 -- a function that was not declared before is the next one
-abbrev pub is_known : List (List ℕ) → List ℕ → Bool
-is_known names name = list_any (bytes_eq name) names
-
-abbrev pub with_name : List (List ℕ) → List ℕ → List (List ℕ)
-with_name names name = if is_known names name then names else names ++ name ∷ []
-
-abbrev pub with_signature : List (List ℕ) → List ℕ → Signature → Around → Around
-with_signature names name s around = if is_known names name then around else record around { signatures = around.signatures ++ s ∷ [] }
+abbrev pub with_signature : (number : ℕ) → Signature → Around → Around
+with_signature number s around = if nat_lt number (length around.signatures) then around else record around { signatures = around.signatures ++ s ∷ [] }
 
 abbrev pub no_frame : FrameLayout
 no_frame = record { size = 0; stands = [] }
@@ -139,21 +129,20 @@ with_body None number s first gone = gone
 with_body (Some body) number s first gone = let frame = slice_index_or gone.around.layout.frames gone.after.body no_frame in
     let x = body (in_body frame s.result gone.around) gone.after in
     let function = function_with gone.around.structs s.parameters (types_between gone.around first x.after) frame x.statement in
-    record gone { after = record x.after { body = x.after.body + 1 }; functions = gone.functions ++ record { number = number; function = function } ∷ [] }
+    record gone { after = past_body x.after; functions = gone.functions ++ record { number = number; function = function } ∷ [] }
 
--- the declaration of a function: its result, and then its parameters, which are its first variables
+-- the declaration of a function: its name, with the type of its result, and then its parameters
 abbrev pub with_function : (Expr → Reading) → Decl → List Decl → Option Stating → Gone → Gone
-with_function read d params body gone = let result = declared_at gone.around gone.after in
-    let first = record (past_declaration gone.after) { variable = 0 } in
-    let ps = declared_all read past_variable params gone.around first in
-    let s : Signature = record { result = result; parameters = ps.types } in
-    with_body body (place_among (with_name gone.names d.name) d.name) s first
-        record gone { around = with_signature gone.names d.name s gone.around; names = with_name gone.names d.name; after = ps.after }
+with_function read d params body gone = let first = past_declaration gone.after in
+    let ps = declared_all read past_declaration params gone.around first in
+    let s : Signature = record { result = declared_at gone.around gone.after; parameters = ps.types } in
+    let number = function_number (bind_at gone.around gone.after) in
+    with_body body number s first record gone { around = with_signature number s gone.around; after = ps.after }
 
 -- ---- the source
 
 abbrev pub after_item : (Expr → Reading) → (Init → Filling) → (Stmt → Stating) → Gone → ItemKind → Gone
-after_item read fill state gone (k.Struct tag members) = let ms = declared_all read past_declaration members gone.around gone.after in
+after_item read fill state gone (k.Struct tag members) = let ms = declared_all read past_member members gone.around gone.after in
     record gone { around = with_struct tag members ms.types gone.around; after = ms.after }
 after_item read fill state gone (k.Var external d init) = let here = past_counts read d gone.around gone.after in
     record gone { after = past_initialiser (maybe fill init) gone.around (declared_at gone.around here) (past_declaration here) }
@@ -166,13 +155,12 @@ after_items read fill state gone (x ∷ more) = after_items read fill state (aft
 abbrev pub at_start : Meanings → SourceLayout → Flags → Gone
 at_start meanings layout flags = record {
   around = record { structs = []; tags = []; members = []; signatures = []; meanings = meanings; layout = layout; flags = flags; stands = []; result = Void };
-  names = [];
   after = start;
   functions = [];
 }
 
 -- the functions with a body of a source by what is found of its expressions, initialisers and statements
-abbrev pub elaborated_by : (Expr → Reading) → (Init → Filling) → (Stmt → Stating) → Tree → Meanings → SourceLayout → Flags → List Defined
+unfoldable pub elaborated_by : (Expr → Reading) → (Init → Filling) → (Stmt → Stating) → Tree → Meanings → SourceLayout → Flags → List Defined
 elaborated_by read fill state tree meanings layout flags = (after_items read fill state (at_start meanings layout flags) tree.items).functions
 
 -- the functions with a body of a source, in order

@@ -33,24 +33,23 @@ pub record SourceLayout : Type 0 where
   pub literals : List ℕ
   pub frames : List FrameLayout
 
--- the type of each expression, what each variable's and each called function's name means, and the type of each declaration, in tree order
+-- the type of each expression; what each name means that stands in an expression, or is declared as a variable or function; and the type of each
+-- declaration: of these in tree order
 pub record Meanings : Type 0 where
   pub kinds : List CType
   pub binds : List Meant
   pub declared : List CType
 
--- how far the tree was gone through: the number of the next expression, name, declaration and literal, of the function's next local, and of
--- the next body
+-- how far the tree was gone through: the number of the next expression, name, declaration, literal and body
 pub record Reached : Type 0 where
   pub kind : ℕ
   pub name : ℕ
   pub declaration : ℕ
   pub literal : ℕ
-  pub variable : ℕ
   pub body : ℕ
 
 abbrev pub start : Reached
-start = record { kind = 0; name = 0; declaration = 0; literal = 0; variable = 0; body = 0 }
+start = record { kind = 0; name = 0; declaration = 0; literal = 0; body = 0 }
 
 -- a function by its number: the types of its parameters and of its result
 pub record Signature : Type 0 where
@@ -71,6 +70,22 @@ pub record Around : Type 0 where
   pub result : CType
 
 -- ---- what is known at a node
+
+-- where a variable of the function stands. A name that is none has no such place
+abbrev pub stand_of : Around → Meant → Stand
+stand_of around (Local number) = slice_index_or around.stands number (Private 0)
+stand_of around (Global number) = Private 0
+stand_of around (Fun number) = Private 0
+stand_of around (Service number) = Private 0
+stand_of around (Builtin number) = Private 0
+
+-- the number of a function
+abbrev pub function_number : Meant → ℕ
+function_number (Fun number) = number
+function_number (Global number) = 0
+function_number (Local number) = 0
+function_number (Service number) = 0
+function_number (Builtin number) = 0
 
 abbrev pub kind_at : Around → Reached → CType
 kind_at around r = slice_index_or around.meanings.kinds r.kind Void
@@ -93,9 +108,13 @@ past_name r = record r { name = r.name + 1 }
 abbrev pub past_literal : Reached → Reached
 past_literal r = record r { literal = r.literal + 1 }
 
+-- past the declaration of a variable or function, whose name means something, and of a member, whose name doesn't
 abbrev pub past_declaration : Reached → Reached
-past_declaration r = record r { declaration = r.declaration + 1 }
+past_declaration r = record r { declaration = r.declaration + 1; name = r.name + 1 }
 
--- a parameter or local is declared
-abbrev pub past_variable : Reached → Reached
-past_variable r = record r { declaration = r.declaration + 1; variable = r.variable + 1 }
+abbrev pub past_member : Reached → Reached
+past_member r = record r { declaration = r.declaration + 1 }
+
+-- past a body
+abbrev pub past_body : Reached → Reached
+past_body r = record r { body = r.body + 1 }

@@ -1,5 +1,5 @@
 -- What a statement of the tree is in the core tree.
-use Rattle.std.specs.Prelude.{ℕ, Option, None, Some, List, [], ◌∷◌, map, slice_index_or}
+use Rattle.std.specs.Prelude.{ℕ, Option, None, Some, List, [], ◌∷◌, map}
 use Rattle.mx_base.specs.declared.places.Place.{Place}
 use Rattle.c_tree.specs.declared.tree.Decl.{Decl}
 use Rattle.c_tree.specs.declared.tree.Expr.{Expr}
@@ -10,7 +10,7 @@ use Rattle.c_tree.specs.declared.tree.StmtKind.TheOpen as s
 use Rattle.c_types.specs.Types.{CType}
 use Rattle.bounds_plan.specs.Core.{NumberExpr, Word, Effect, Nothing, Statement, Skip, Do, Then, If, While, DoWhile, For, Break, Continue, Return, ReturnNumber, ReturnPtr}
 use Rattle.bounds_plan.specs.ElaborateTypes.{Value, Numeric, Address, number_in, size_in, given}
-use Rattle.bounds_plan.specs.ElaborateSource.{Reached, Around, declared_at, past_variable, Private}
+use Rattle.bounds_plan.specs.ElaborateSource.{Reached, Around, declared_at, bind_at, past_declaration, stand_of}
 use Rattle.bounds_plan.specs.ElaboratePlaces.{variable_at}
 use Rattle.bounds_plan.specs.ElaborateExpressions.{Found, Reading, find_all}
 use Rattle.bounds_plan.specs.ElaborateInitialisers.{Filling}
@@ -66,8 +66,8 @@ past_counts read d around r = (find_all (map read d.counts) around r).after
 
 -- a local is initialised where its declaration stands, each time that it is come by; without an initialiser nothing happens
 abbrev pub declared : Option Filling → Around → Reached → Stated
-declared None around r = stated Skip (past_variable r)
-declared (Some init) around r = let x = init around (declared_at around r) (variable_at (slice_index_or around.stands r.variable (Private 0)) (size_in around.structs (declared_at around r))) 0 (past_variable r) in
+declared None around r = stated Skip (past_declaration r)
+declared (Some init) around r = let x = init around (declared_at around r) (variable_at (stand_of around (bind_at around r)) (size_in around.structs (declared_at around r))) 0 (past_declaration r) in
     stated (in_order x.effects) x.after
 
 abbrev pub return_of : Value → Statement

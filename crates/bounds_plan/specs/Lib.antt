@@ -20,3 +20,5 @@ pub mod Sorts
 pub mod State
 pub mod Statements
 pub mod Worked
+pub mod WorkedRuns
+pub mod WorkedSources
