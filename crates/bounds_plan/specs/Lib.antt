@@ -22,3 +22,4 @@ pub mod Statements
 pub mod Worked
 pub mod WorkedRuns
 pub mod WorkedSources
+pub mod WorkedForms

@@ -20,11 +20,12 @@ use Rattle.c_tree.specs.declared.tree.StmtKind.TheVariants as s
 use Rattle.c_types.specs.Types.{CType, Void, Int, Pointer, Array, Struct}
 use Rattle.bounds_plan.specs.ElaborateSource.{Global, Local, Fun, Service, Builtin, Private, Frame, SourceLayout, Meanings}
 
--- a source: its tree, the types and meanings of its nodes, and where its data stands
+-- a source: its tree, the types and meanings of its nodes, where its data stands, and the bytes of its literals
 pub record Source : Type 0 where
   pub tree : Tree
   pub meanings : Meanings
   pub layout : SourceLayout
+  pub literals : List ℕ
 
 -- ---- nodes by their line and column: an expression, an initialiser, a statement, a declaration and an item
 abbrev pub expr : (line col : ℕ) → ExprKind → Expr
@@ -55,6 +56,7 @@ prints_7 = record {
     declared = Int I32 ∷ [];
   };
   layout = record { globals = []; functions = 0 ∷ []; texts = 1; literals = []; frames = record { size = 0; stands = [] } ∷ [] };
+  literals = [];
 }
 
 -- char a[4];
@@ -70,6 +72,7 @@ writes_element_3 = record {
     declared = Array (Int I8) 4 ∷ Int I32 ∷ [];
   };
   layout = record { globals = 0 ∷ []; functions = 1 ∷ []; texts = 2; literals = []; frames = record { size = 0; stands = [] } ∷ [] };
+  literals = [];
 }
 
 -- char a[4];
@@ -85,6 +88,7 @@ writes_element_4 = record {
     declared = Array (Int I8) 4 ∷ Int I32 ∷ [];
   };
   layout = record { globals = 0 ∷ []; functions = 1 ∷ []; texts = 2; literals = []; frames = record { size = 0; stands = [] } ∷ [] };
+  literals = [];
 }
 
 -- char a[4];
@@ -100,6 +104,7 @@ reads_past_end = record {
     declared = Array (Int I8) 4 ∷ Int I32 ∷ [];
   };
   layout = record { globals = 0 ∷ []; functions = 1 ∷ []; texts = 2; literals = []; frames = record { size = 0; stands = [] } ∷ [] };
+  literals = [];
 }
 
 -- int main(void){ char *p = alloc(9); int i;
@@ -114,6 +119,7 @@ fills_block = record {
     declared = Int I32 ∷ Pointer (Int I8) ∷ Int I32 ∷ [];
   };
   layout = record { globals = []; functions = 0 ∷ []; texts = 1; literals = []; frames = record { size = 0; stands = Private 0 ∷ Private 2 ∷ [] } ∷ [] };
+  literals = [];
 }
 
 -- char a[4]; char *g;
@@ -132,6 +138,7 @@ keeps_pointer = record {
     declared = Array (Int I8) 4 ∷ Pointer (Int I8) ∷ Int I32 ∷ Pointer (Int I8) ∷ [];
   };
   layout = record { globals = 0 ∷ 1 ∷ []; functions = 2 ∷ []; texts = 3; literals = []; frames = record { size = 0; stands = Private 0 ∷ [] } ∷ [] };
+  literals = [];
 }
 
 -- char a[4]; char *g;
@@ -149,6 +156,7 @@ spoils_pointer = record {
     declared = Array (Int I8) 4 ∷ Pointer (Int I8) ∷ Int I32 ∷ Pointer (Int I8) ∷ [];
   };
   layout = record { globals = 0 ∷ 1 ∷ []; functions = 2 ∷ []; texts = 3; literals = []; frames = record { size = 0; stands = Private 0 ∷ [] } ∷ [] };
+  literals = [];
 }
 
 -- char a[4];
@@ -164,6 +172,7 @@ spreads_pointers = record {
     declared = Array (Int I8) 4 ∷ Int I32 ∷ Pointer (Pointer (Int I8)) ∷ [];
   };
   layout = record { globals = 0 ∷ []; functions = 1 ∷ []; texts = 2; literals = []; frames = record { size = 0; stands = Private 0 ∷ [] } ∷ [] };
+  literals = [];
 }
 
 -- int main(void){ long *p = __builtin___bnd_init_ptr_bounds((void *)-1); print(*p); return 0; }
@@ -177,6 +186,7 @@ reads_last_byte = record {
     declared = Int I32 ∷ Pointer (Int I64) ∷ [];
   };
   layout = record { globals = []; functions = 0 ∷ []; texts = 1; literals = []; frames = record { size = 0; stands = Private 0 ∷ [] } ∷ [] };
+  literals = [];
 }
 
 -- struct S { int a; int b[2]; int c; }; struct S s;
@@ -193,6 +203,7 @@ prints_members = record {
     declared = Int I32 ∷ Array (Int I32) 2 ∷ Int I32 ∷ Struct 0 ∷ Int I32 ∷ [];
   };
   layout = record { globals = 0 ∷ []; functions = 1 ∷ []; texts = 2; literals = []; frames = record { size = 0; stands = [] } ∷ [] };
+  literals = [];
 }
 
 -- struct P { char *x; char *y; };
@@ -214,6 +225,7 @@ copies_pointers = record {
     declared = Pointer (Int I8) ∷ Pointer (Int I8) ∷ Array (Int I8) 4 ∷ Array (Int I8) 2 ∷ Struct 0 ∷ Struct 0 ∷ Int I32 ∷ [];
   };
   layout = record { globals = 0 ∷ 1 ∷ 2 ∷ 3 ∷ []; functions = 4 ∷ []; texts = 5; literals = []; frames = record { size = 0; stands = [] } ∷ [] };
+  literals = [];
 }
 
 -- int main(void){ int i; for(i=0;;i++) print(i); }
@@ -227,6 +239,7 @@ counts = record {
     declared = Int I32 ∷ Int I32 ∷ [];
   };
   layout = record { globals = []; functions = 0 ∷ []; texts = 1; literals = []; frames = record { size = 0; stands = Private 0 ∷ [] } ∷ [] };
+  literals = [];
 }
 
 -- int f(int n){ if(n==0) return 0; return f(n-1); } int main(void){ return f(2); }
@@ -241,6 +254,7 @@ descends_2 = record {
     declared = Int I32 ∷ Int I32 ∷ Int I32 ∷ [];
   };
   layout = record { globals = []; functions = 0 ∷ 1 ∷ []; texts = 2; literals = []; frames = record { size = 0; stands = Private 0 ∷ [] } ∷ record { size = 0; stands = [] } ∷ [] };
+  literals = [];
 }
 
 -- int f(int n){ if(n==0) return 0; return f(n-1); } int main(void){ return f(1); }
@@ -255,6 +269,7 @@ descends_1 = record {
     declared = Int I32 ∷ Int I32 ∷ Int I32 ∷ [];
   };
   layout = record { globals = []; functions = 0 ∷ 1 ∷ []; texts = 2; literals = []; frames = record { size = 0; stands = Private 0 ∷ [] } ∷ record { size = 0; stands = [] } ∷ [] };
+  literals = [];
 }
 
 -- int main(void){ print(1/0); return 0; }
@@ -268,6 +283,7 @@ divides_by_0 = record {
     declared = Int I32 ∷ [];
   };
   layout = record { globals = []; functions = 0 ∷ []; texts = 1; literals = []; frames = record { size = 0; stands = [] } ∷ [] };
+  literals = [];
 }
 
 -- int main(void){ char *p = alloc(8); print(free(p)); print(free(p)); print(get()); return 0; }
@@ -281,5 +297,6 @@ frees_twice = record {
     declared = Int I32 ∷ Pointer (Int I8) ∷ [];
   };
   layout = record { globals = []; functions = 0 ∷ []; texts = 1; literals = []; frames = record { size = 0; stands = Private 0 ∷ [] } ∷ [] };
+  literals = [];
 }
 

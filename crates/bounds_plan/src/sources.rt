@@ -4,6 +4,8 @@ ghost use Rattle.std.specs.Prelude.{[], ◌∷◌, codes};
 ghost use Rattle.mx_base.specs.StopOfC.{Exit, Bounds, OutOfTurns, Divide, StackOver, Unmapped, AtPlace};
 ghost use Rattle.bounds_plan.specs.Worked.{ends, read, written, pair, at, array_and_pointer, first_object, pairs_of_pointers};
 ghost use Rattle.bounds_plan.specs.WorkedSources.{copies_pointers, counts, descends_1, descends_2, divides_by_0, fills_block, frees_twice, keeps_pointer, prints_7, prints_members, reads_last_byte, reads_past_end, spoils_pointer, spreads_pointers, writes_element_3, writes_element_4};
+ghost use Rattle.bounds_plan.specs.WorkedForms.{calculates, changes, points, fills, goes_round};
+ghost use Rattle.bounds_plan.specs.WorkedRuns.{SaysSo, objects_apart};
 ghost use Rattle.bounds_plan.specs.WorkedRuns.{EndSo, narrowing, not_narrowing};
 
 /// How small programs end that are given as syntax trees: by which stop, with which output, with how many turns left, after which
@@ -27,4 +29,14 @@ pub fn small_sources_mean_so()
     ensures deep { EndSo descends_1 narrowing first_object 3 1 100 (ends (Exit 0) [] 94 [] []) }
     ensures division { EndSo divides_by_0 narrowing first_object 4096 0 10 (ends Divide [] 9 [] []) }
     ensures freed_twice { EndSo frees_twice narrowing first_object 4096 0 10 (ends (Exit 0) (codes "0\n-1\n-1\n") 8 [] []) }
+{}
+
+/// How programs end that have every form of expression, initialiser and statement, and what they print, by their meaning and
+/// by the steps that they are compiled to. The numbers are those that a C compiler's program prints.
+pub fn sources_with_every_form_say_so()
+    ensures calculates { SaysSo calculates narrowing objects_apart 4096 0 1000 (Exit 44) (codes "-56\n200\n4464\n4294967295\n0\n-3\n-1\n-4\n268435455\n-11200\n2\n1\n1\n6\n-200\n0\n1\n-1\n4294967295\n15\n4294967240\n2147483648\n205\n1\n0\n0\n") }
+    ensures changes { SaysSo changes narrowing objects_apart 4096 0 1000 (Exit 0) (codes "-56\n-2\n-8\n-2\n0\n1099511627776\n4\n4\n4\n13\n14\n0\n2\n2\n0\n4\n3\n44\n7\n") }
+    ensures points { SaysSo points narrowing objects_apart 4096 0 1000 (Exit 9) (codes "19\n32\n8\n12\n6\n5\n5\n5\n2\n1\n1\n1\n1\n1\n1\n0\n5\n10\n10\n1\n98\n97\n97\n98\n4\n0\n2\n1\n5\n") }
+    ensures fills { SaysSo fills narrowing objects_apart 4096 0 1000 (Exit 0) (codes "32\n99\n98\n0\n120\n0\n3\n128\n1\n1\n2\n1\n104\n48\n5\n9\n4\n") }
+    ensures goes_round { SaysSo goes_round narrowing objects_apart 4096 3 1000 (Exit 13) (codes "18\n10\n2153767\n42\n3\n8\n77\n-1\n-1\n2\n") }
 {}
