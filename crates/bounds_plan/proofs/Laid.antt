@@ -1,5 +1,5 @@
 -- The elaboration by folds that compute on closed trees is the elaboration.
-use Rattle.std.proofs.Common.{◌≡◌, ap, sym, ◌∙◌, List}
+use Rattle.std.proofs.Common.{◌≡◌, ap, sym, ◌∙◌, ℕ, List}
 use denote.Hole.Carrier.{fold, roll}
 use denote.Hole.Recursion.{fold_unique}
 use Rattle.mx_base.specs.declared.places.Place.{Place}
@@ -20,8 +20,8 @@ use Rattle.c_tree.specs.declared.tree.StmtKind.TheBlock as sb
 use Rattle.bounds_plan.specs.ElaborateSource.{Meanings, SourceLayout}
 use Rattle.bounds_plan.specs.ElaborateExpressions.{Reading, step, expression}
 use Rattle.bounds_plan.specs.ElaborateInitialisers.{Filling, init_step, initialiser}
-use Rattle.bounds_plan.specs.ElaborateStatements.{Stating, stmt_step, statement_by}
-use Rattle.bounds_plan.specs.ElaborateFunctions.{Defined, elaborated, elaborated_by}
+use Rattle.bounds_plan.specs.ElaborateStatements.{Stating, stmt_step, statement_by, declares, declarations}
+use Rattle.bounds_plan.specs.ElaborateFunctions.{Defined, body_by, elaborated, elaborated_by}
 
 module _ (A B : Type 0) (f : ExprKind-F A B → A) (g : Expr-F A B → B) where
   abbrev both_exprs : (i : eb.the_members) → eb.the_family i → ef.family A B i
@@ -74,8 +74,11 @@ initialiser_laid read = nb.laid-Init (nf.family (Place → Filling) Filling) (nf
 abbrev pub statement_laid : (Expr → Reading) → (Init → Filling) → Stmt → Stating
 statement_laid read fill = sb.laid-Stmt (sf.family Stating Stating) (sf.steps Stating Stating (stmt_step read fill) (λ x. x.kind))
 
+abbrev pub declarations_laid : Stmt → ℕ
+declarations_laid = sb.laid-Stmt (sf.family ℕ ℕ) (sf.steps ℕ ℕ declares (λ x. x.kind))
+
 abbrev pub elaborated_laid : Tree → Meanings → SourceLayout → Flags → List Defined
-elaborated_laid = elaborated_by expression_laid (initialiser_laid expression_laid) (statement_laid expression_laid (initialiser_laid expression_laid))
+elaborated_laid = elaborated_by expression_laid (initialiser_laid expression_laid) (body_by (statement_laid expression_laid (initialiser_laid expression_laid)) declarations_laid)
 
 expressions_same : expression ≡ expression_laid
 expressions_same = λ i t. exprs_laid (Place → Reading) Reading step (λ x. x.kind x.place) t i
@@ -92,5 +95,8 @@ fills_same = ap initialiser expressions_same ∙ initialisers_same expression_la
 states_same : statement_by expression (initialiser expression) ≡ statement_laid expression_laid (initialiser_laid expression_laid)
 states_same = (λ i. statement_by (expressions_same i) (fills_same i)) ∙ statements_same expression_laid (initialiser_laid expression_laid)
 
+declarations_same : declarations ≡ declarations_laid
+declarations_same = λ i t. stmts_laid ℕ ℕ declares (λ x. x.kind) t i
+
 pub elaborations_same : elaborated ≡ elaborated_laid
-elaborations_same = λ i. elaborated_by (expressions_same i) (fills_same i) (states_same i)
+elaborations_same = λ i. elaborated_by (expressions_same i) (fills_same i) (body_by (states_same i) (declarations_same i))

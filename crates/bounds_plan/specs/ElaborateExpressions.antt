@@ -1,5 +1,5 @@
 -- What an expression of the tree is in the core tree.
-use Rattle.std.specs.Prelude.{ℕ, zero, suc, ◌+◌, ◌==◌, Bool, true, false, not, if◌then◌else◌, Option, None, Some, List, [], ◌∷◌, length, slice_index_or}
+use Rattle.std.specs.Prelude.{ℕ, zero, suc, ◌+◌, ◌==◌, Bool, true, false, not, if◌then◌else◌, Option, None, Some, List, [], ◌∷◌, length, slice_get, slice_index_or}
 use Rattle.mx_base.specs.declared.numbers.IntKind.{IntKind}
 use Rattle.mx_base.specs.declared.numbers.IntKind.TheVariants.{I32, I64, U64}
 use Rattle.mx_base.specs.declared.places.Place.{Place}
@@ -13,8 +13,8 @@ use Rattle.c_types.specs.Types.{CType, Void, Int, Pointer, Array, Struct, Struct
 use Rattle.bounds_plan.specs.Core.{NumberExpr, Word, Operate, Compare, And, Or, Choose, Call, Serve, Ask, AsNumber, PointerExpr, Function, Object, ChoosePtr, CallPtr, Alloc, SetBounds, NarrowBounds, CopyBounds, InitBounds, BoundOf, Arguments, NoMore, WithNumber, WithPointer, Effect, OfNumber, OfPointer, CopyStruct}
 use Rattle.bounds_plan.specs.ElaborateScalars.{scalars_of}
 use Rattle.bounds_plan.specs.ElaborateTypes.{Value, Numeric, Address, number_in, pointer_in, Sort, ANumber, APointer, AWhole, NoValue, sort_of, kind_of, target_of, size_in, step_in, promoted, common, done_in, converted, right_operand, wanted_pointer, given, cast_to}
-use Rattle.bounds_plan.specs.ElaborateSource.{Meant, Global, Local, Fun, Service, Builtin, Reached, Signature, Around, kind_at, bind_at, literal_at, past_kind, past_name, past_literal, start, stand_of}
-use Rattle.bounds_plan.specs.ElaboratePlaces.{Lvalue, InMemory, address_in, read_as, written_as, number_changed, pointer_changed, takes_away, variable_at, place_among, struct_of, member_at, element_at, element_after}
+use Rattle.bounds_plan.specs.ElaborateSource.{Meant, Global, Local, Fun, Service, Builtin, Reached, Signature, Around, kind_at, bind_at, literal_at, past_kind, past_name, past_literal, start}
+use Rattle.bounds_plan.specs.ElaboratePlaces.{Lvalue, InMemory, address_in, read_as, written_as, changed_as, takes_away, variable_of, place_among, struct_of, member_at, element_at, element_after}
 
 -- what is found of an expression: its type and value, and its place in the sources; the place that it is, if it is one; what it does as a whole
 -- statement; the bytes of a text; and how far the tree was gone through after it
@@ -46,12 +46,15 @@ a_place type l place after = record { type = type; value = read_as (sort_of type
 
 -- ---- names and texts
 
+abbrev pub symbol_of : Around → (number : ℕ) → ℕ
+symbol_of around number = slice_index_or around.layout.functions number 0
+
 -- a global stands behind its symbol, a variable of the function in a private variable or its data frame. The name of a function is its address,
 -- and no place; a service or builtin has none, and stands only before its arguments
 abbrev pub named : Around → CType → Meant → Place → Reached → Found
 named around type (Global number) place after = a_place type (InMemory (Object (slice_index_or around.layout.globals number 0) 0 (size_in around.structs type))) place after
-named around type (Local number) place after = a_place type (variable_at (stand_of around (Local number)) (size_in around.structs type)) place after
-named around type (Fun number) place after = no_place type (Address (Function (slice_index_or around.layout.functions number 0))) place after
+named around type (Local number) place after = a_place type (variable_of around.structs around.variables around.stands 0 number) place after
+named around type (Fun number) place after = no_place type (Address (Function (symbol_of around number))) place after
 named around type (Service number) place after = no_place type (Numeric (Word 0)) place after
 named around type (Builtin number) place after = no_place type (Numeric (Word 0)) place after
 
@@ -150,16 +153,13 @@ abbrev pub compound_at : ℕ → Arithmetic
 compound_at n = if n == 1 then Plus else if n == 2 then Minus else if n == 3 then Times else if n == 4 then Over else if n == 5 then Rest
     else if n == 6 then BitAnd else if n == 7 then BitOr else if n == 8 then BitXor else if n == 9 then Left else Right
 
--- a number is changed in the type in which the operator is done, and a pointer by elements of what it points to
-abbrev pub changed_by : Sort → List StructType → Arithmetic → Found → (kind : IntKind) → NumberExpr → (old : Bool) → Value
-changed_by (ANumber k) structs op a kind e old = number_changed k a.place a.lvalue op (done_in op k kind) (right_operand op kind (done_in op k kind) e) old
-changed_by APointer structs op a kind e old = pointer_changed a.place a.lvalue (takes_away op) (step_in structs a.type) e old
-changed_by AWhole structs op a kind e old = a.value
-changed_by NoValue structs op a kind e old = a.value
+-- a place is changed by an operator and a number of this type
+abbrev pub changed : List StructType → Arithmetic → Found → (from : IntKind) → NumberExpr → (old : Bool) → Value
+changed structs op a from e old = changed_as (kind_of a.type) (sort_of a.type) a.place a.lvalue op from (step_in structs a.type) e old
 
 -- `a op= b`
 abbrev pub compound : Around → Arithmetic → Found → Found → Place → Reached → Found
-compound around op a b place after = no_place a.type (changed_by (sort_of a.type) around.structs op a (kind_of b.type) (number_in b.value) false) place after
+compound around op a b place after = no_place a.type (changed around.structs op a (kind_of b.type) (number_in b.value) false) place after
 
 abbrev pub assign_by : Option ℕ → Around → Found → Found → Place → Reached → Found
 assign_by None around a b place after = assignment around a b place after
@@ -167,7 +167,7 @@ assign_by (Some op) around a b place after = compound around (compound_at op) a 
 
 -- `++` and `--` add the `int` 1 or take it away; behind their operand they give the value before
 abbrev pub stepped_by : Around → (up before : Bool) → Found → Place → Reached → Found
-stepped_by around up before a place after = no_place a.type (changed_by (sort_of a.type) around.structs (if up then Plus else Minus) a I32 (Word 1) (not before)) place after
+stepped_by around up before a place after = no_place a.type (changed around.structs (if up then Plus else Minus) a I32 (Word 1) (not before)) place after
 
 -- ---- calls
 
@@ -185,9 +185,10 @@ abbrev pub with_argument : Value → Arguments → Arguments
 with_argument (Numeric e) rest = WithNumber e rest
 with_argument (Address p) rest = WithPointer p rest
 
+-- one for each parameter: where none is given, which `check` refuses, it is 0
 abbrev pub arguments_for : List CType → List Found → Arguments
 arguments_for [] all = NoMore
-arguments_for (t ∷ ts) [] = NoMore
+arguments_for (t ∷ ts) [] = with_argument (given t Void (Numeric (Word 0))) (arguments_for ts [])
 arguments_for (t ∷ ts) (a ∷ more) = with_argument (given t a.type a.value) (arguments_for ts more)
 
 abbrev pub called_as : Sort → (symbol : ℕ) → Arguments → Value
@@ -225,12 +226,14 @@ built_in number all = if number == 0 then SetBounds (pointer_of_argument 0 all) 
     else if number == 4 then BoundOf false (pointer_of_argument 0 all)
     else BoundOf true (pointer_of_argument 0 all)
 
-abbrev pub no_signature : Signature
-no_signature = record { result = Void; parameters = [] }
+-- a call of a function that was declared
+abbrev pub function_called : Around → CType → (number : ℕ) → Option Signature → List Found → Value
+function_called around type number None all = Numeric (Word 0)
+function_called around type number (Some s) all = called_as (sort_of type) (symbol_of around number) (arguments_for s.parameters all)
 
--- a call of what its name means
+-- a call of what its name means; a variable is not called
 abbrev pub called : Around → CType → Meant → List Found → Value
-called around type (Fun number) all = called_as (sort_of type) (slice_index_or around.layout.functions number 0) (arguments_for (slice_index_or around.signatures number no_signature).parameters all)
+called around type (Fun number) all = function_called around type number (slice_get around.signatures number) all
 called around type (Service number) all = served number all
 called around type (Builtin number) all = Address (built_in number all)
 called around type (Global number) all = Numeric (Word 0)

@@ -15,7 +15,7 @@ use Rattle.bounds_plan.specs.Core.{Word, Null, Member, Scalar, Effect}
 use Rattle.bounds_plan.specs.ElaborateScalars.{scalars_of, scalar_at}
 use Rattle.bounds_plan.specs.ElaborateTypes.{Value, Numeric, Address, ANumber, APointer, sort_of, kind_of, size_in, given}
 use Rattle.bounds_plan.specs.ElaborateSource.{Reached, Around}
-use Rattle.bounds_plan.specs.ElaboratePlaces.{Lvalue, InVariable, InMemory, written_as}
+use Rattle.bounds_plan.specs.ElaboratePlaces.{Lvalue, NumberVariable, PointerVariable, InMemory, written_as}
 use Rattle.bounds_plan.specs.ElaborateExpressions.{Found, Reading, effect_of, struct_copied, without_literals}
 
 -- what an initialiser does, in order, and how far the tree was gone through after it
@@ -30,7 +30,8 @@ Filling = Around → CType → Lvalue → ℕ → Reached → Filled
 -- the part of a variable at an offset, which has the variable's bounds
 abbrev pub part_at : ℕ → Lvalue → Lvalue
 part_at zero l = l
-part_at (suc n) (InVariable x) = InVariable x
+part_at (suc n) (NumberVariable x) = NumberVariable x
+part_at (suc n) (PointerVariable x) = PointerVariable x
 part_at (suc n) (InMemory p) = InMemory (Member (suc n) Keep p)
 
 -- ---- the rest is 0

@@ -1,5 +1,5 @@
 -- Places: what can be read, assigned to, or have its address taken; and the addresses of variables, members and elements.
-use Rattle.std.specs.Prelude.{ℕ, ◌==◌, Bool, true, false, List, [], ◌∷◌, map, slice_index, slice_index_or}
+use Rattle.std.specs.Prelude.{ℕ, zero, suc, ◌+◌, ◌==◌, Bool, true, false, List, [], ◌∷◌, ◌++◌, length, map, slice_index, slice_index_or}
 use Rattle.std.specs.List.{position_or_len}
 use Rattle.std.specs.Str.{bytes_eq}
 use Rattle.mx_base.specs.declared.numbers.IntKind.{IntKind}
@@ -10,38 +10,46 @@ use Rattle.narrowing.specs.Member.{rule_of}
 use Rattle.c_types.specs.Types.{CType, Void, Int, Pointer, Array, Struct, StructType, members_of}
 use Rattle.c_types.specs.Layouts.{no_layout, layout_of, offsets_from}
 use Rattle.bounds_plan.specs.Core.{NumberExpr, Variable, Assign, Load, Store, Update, UpdateAt, PointerExpr, Null, Object, InFrame, VariablePtr, AssignPtr, Member, Element, LoadPtr, StorePtr, Advance, AdvanceAt}
-use Rattle.bounds_plan.specs.ElaborateTypes.{Value, Numeric, Address, number_in, pointer_in, wanted_pointer, Sort, ANumber, APointer, AWhole, NoValue}
+use Rattle.bounds_plan.specs.ElaborateTypes.{Value, Numeric, Address, number_in, pointer_in, Sort, ANumber, APointer, AWhole, NoValue, sort_of, size_in, done_in, right_operand}
 use Rattle.bounds_plan.specs.ElaborateSource.{Stand, Private, Frame}
 
--- a place is a private variable, by its value, or stands in memory at an address
+-- a place is a private variable of a number or a pointer, by its value, or stands in memory at an address
 pub data Lvalue : Type 0 where
-  InVariable : (x : ℕ) → Lvalue
+  NumberVariable : (x : ℕ) → Lvalue
+  PointerVariable : (x : ℕ) → Lvalue
   InMemory : (p : PointerExpr) → Lvalue
 
 -- the address of a place. A private variable has none: no `&` is applied to it, and it is neither an array nor a struct
 abbrev pub address_in : Lvalue → PointerExpr
-address_in (InVariable x) = Null
+address_in (NumberVariable x) = Null
+address_in (PointerVariable x) = Null
 address_in (InMemory p) = p
 
 -- ---- the three things done with a place: it is read, written, and changed. `place` is where it stands in the sources
 
--- the value in a place; that of an array or a struct is its address
+-- what is read at an address; of an array or a struct the value is the address
+abbrev pub loaded_as : Sort → (place : Place) → PointerExpr → Value
+loaded_as (ANumber kind) place p = Numeric (Load kind place p)
+loaded_as APointer place p = Address (LoadPtr place p)
+loaded_as AWhole place p = Address p
+loaded_as NoValue place p = Address p
+
 abbrev pub read_as : Sort → (place : Place) → Lvalue → Value
-read_as (ANumber kind) place (InVariable x) = Numeric (Variable x)
-read_as (ANumber kind) place (InMemory p) = Numeric (Load kind place p)
-read_as APointer place (InVariable x) = Address (VariablePtr x)
-read_as APointer place (InMemory p) = Address (LoadPtr place p)
-read_as AWhole place l = Address (address_in l)
-read_as NoValue place l = Address (address_in l)
+read_as sort place (NumberVariable x) = Numeric (Variable x)
+read_as sort place (PointerVariable x) = Address (VariablePtr x)
+read_as sort place (InMemory p) = loaded_as sort place p
 
 -- a value of the place's type is written
+abbrev pub stored_as : Sort → (place : Place) → PointerExpr → Value → Value
+stored_as (ANumber kind) place p v = Numeric (Store kind place p (number_in v))
+stored_as APointer place p v = Address (StorePtr place p (pointer_in v))
+stored_as AWhole place p v = Address p
+stored_as NoValue place p v = Address p
+
 abbrev pub written_as : Sort → (place : Place) → Lvalue → Value → Value
-written_as (ANumber kind) place (InVariable x) v = Numeric (Assign x (number_in v))
-written_as (ANumber kind) place (InMemory p) v = Numeric (Store kind place p (number_in v))
-written_as APointer place (InVariable x) v = Address (AssignPtr x (pointer_in v))
-written_as APointer place (InMemory p) v = Address (StorePtr place p (pointer_in v))
-written_as AWhole place l v = Address (address_in l)
-written_as NoValue place l v = Address (address_in l)
+written_as sort place (NumberVariable x) v = Numeric (Assign x (number_in v))
+written_as sort place (PointerVariable x) v = Address (AssignPtr x (pointer_in v))
+written_as sort place (InMemory p) v = stored_as sort place p v
 
 -- of the operators only `+` and `-` take a pointer on their left
 abbrev pub takes_away : Arithmetic → Bool
@@ -56,22 +64,62 @@ takes_away BitAnd = false
 takes_away BitXor = false
 takes_away BitOr = false
 
--- a place of a number takes the value of an operator on its own value and e, done in the type `common`; the value is that before where `old` says so
-abbrev pub number_changed : (kind : IntKind) → (place : Place) → Lvalue → (op : Arithmetic) → (common : IntKind) → (e : NumberExpr) → (old : Bool) → Value
-number_changed kind place (InVariable x) op common e old = Numeric (Update x kind op common e old)
-number_changed kind place (InMemory p) op common e old = Numeric (UpdateAt kind place p op common e old)
+-- a place takes the value of an operator on its own value and a number e of the type `from`: a number is changed in the type in which the operator
+-- is done, and a pointer by e elements of `size` bytes. The value is that before where `old` says so
+abbrev pub changed_at : Sort → (place : Place) → PointerExpr → Arithmetic → (from : IntKind) → (size : ℕ) → NumberExpr → (old : Bool) → Value
+changed_at (ANumber kind) place p op from size e old = Numeric (UpdateAt kind place p op (done_in op kind from) (right_operand op from (done_in op kind from) e) old)
+changed_at APointer place p op from size e old = Address (AdvanceAt place p (takes_away op) size e old)
+changed_at AWhole place p op from size e old = Address p
+changed_at NoValue place p op from size e old = Address p
 
--- a place of a pointer moves it by i elements of this size
-abbrev pub pointer_changed : (place : Place) → Lvalue → (minus : Bool) → (size : ℕ) → (i : NumberExpr) → (old : Bool) → Value
-pointer_changed place (InVariable x) minus size i old = Address (Advance x minus size i old)
-pointer_changed place (InMemory p) minus size i old = Address (AdvanceAt place p minus size i old)
+abbrev pub changed_as : (kind : IntKind) → Sort → (place : Place) → Lvalue → Arithmetic → (from : IntKind) → (size : ℕ) → NumberExpr → (old : Bool) → Value
+changed_as kind sort place (NumberVariable x) op from size e old = Numeric (Update x kind op (done_in op kind from) (right_operand op from (done_in op kind from) e) old)
+changed_as kind sort place (PointerVariable x) op from size e old = Address (Advance x (takes_away op) size e old)
+changed_as kind sort place (InMemory p) op from size e old = changed_at sort place p op from size e old
 
--- ---- addresses
+-- ---- variables
 
--- a parameter or local of this size
-abbrev pub variable_at : Stand → (size : ℕ) → Lvalue
-variable_at (Private x) size = InVariable x
-variable_at (Frame offset) size = InMemory (InFrame offset size)
+-- the values of a private variable, of each of which is said whether it is bounds: a number, and a pointer's number and then its bounds. Arrays and
+-- structs are never private
+abbrev pub private_values_of : Sort → Stand → List Bool
+private_values_of (ANumber kind) Private = false ∷ []
+private_values_of APointer Private = false ∷ true ∷ []
+private_values_of AWhole Private = []
+private_values_of NoValue Private = []
+private_values_of (ANumber kind) (Frame offset) = []
+private_values_of APointer (Frame offset) = []
+private_values_of AWhole (Frame offset) = []
+private_values_of NoValue (Frame offset) = []
+
+-- those of parameters and locals of these types, in order of declaration
+abbrev pub private_values : List CType → List Stand → List Bool
+private_values [] stands = []
+private_values (t ∷ ts) [] = []
+private_values (t ∷ ts) (s ∷ ss) = private_values_of (sort_of t) s ++ private_values ts ss
+
+abbrev pub offset_of : Stand → ℕ
+offset_of Private = 0
+offset_of (Frame offset) = offset
+
+-- a parameter or local of this size; its first private value is x, if it has one
+abbrev pub variable_at : Sort → Stand → (x size : ℕ) → Lvalue
+variable_at (ANumber kind) Private x size = NumberVariable x
+variable_at APointer Private x size = PointerVariable x
+variable_at AWhole Private x size = InMemory (InFrame 0 size)
+variable_at NoValue Private x size = InMemory (InFrame 0 size)
+variable_at (ANumber kind) (Frame offset) x size = InMemory (InFrame offset size)
+variable_at APointer (Frame offset) x size = InMemory (InFrame offset size)
+variable_at AWhole (Frame offset) x size = InMemory (InFrame offset size)
+variable_at NoValue (Frame offset) x size = InMemory (InFrame offset size)
+
+-- the parameter or local of a number among those of these types, of which the first has its private values from x on
+abbrev pub variable_of : List StructType → List CType → List Stand → (x number : ℕ) → Lvalue
+variable_of structs [] stands x number = InMemory Null
+variable_of structs (t ∷ ts) [] x number = InMemory Null
+variable_of structs (t ∷ ts) (s ∷ ss) x zero = variable_at (sort_of t) s x (size_in structs t)
+variable_of structs (t ∷ ts) (s ∷ ss) x (suc n) = variable_of structs ts ss (x + length (private_values_of (sort_of t) s)) n
+
+-- ---- members and elements
 
 -- the how-manieth name of a list
 abbrev pub place_among : List (List ℕ) → List ℕ → ℕ

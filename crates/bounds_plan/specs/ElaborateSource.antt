@@ -1,6 +1,6 @@
 -- What is known of a source beside its tree when it is elaborated: the types and meanings that its nodes have in tree order, and where its
 -- variables and literals stand. Tree order has children before their parent and goes from left to right.
-use Rattle.std.specs.Prelude.{ℕ, ◌+◌, List, [], ◌∷◌, slice_index_or, slice_index}
+use Rattle.std.specs.Prelude.{ℕ, ◌+◌, Option, None, Some, List, [], ◌∷◌, slice_index_or, slice_index}
 use Rattle.mx_base.specs.declared.settings.Flags.{Flags}
 use Rattle.c_types.specs.Types.{CType, Void, StructType}
 
@@ -13,10 +13,9 @@ pub data Meant : Type 0 where
   Service : (number : ℕ) → Meant
   Builtin : (number : ℕ) → Meant
 
--- where a parameter or local stands: in a private variable, which has this place among the values of its function, or at an offset of the
--- data frame
+-- where a parameter or local stands: in a private variable, or at an offset of the data frame
 pub data Stand : Type 0 where
-  Private : (x : ℕ) → Stand
+  Private : Stand
   Frame : (offset : ℕ) → Stand
 
 -- of each parameter and local of a function where it stands, and the size of the data frame
@@ -57,7 +56,7 @@ pub record Signature : Type 0 where
   pub parameters : List CType
 
 -- all that an expression is elaborated by: the structs, with their members' names, and the functions of its source; its meanings and layout; the
--- flags; and of the function around it where its variables stand and what it gives
+-- flags; and of the function around it the types of its parameters and locals, where they stand, and the type of what it gives
 pub record Around : Type 0 where
   pub structs : List StructType
   pub tags : List (List ℕ)
@@ -66,26 +65,11 @@ pub record Around : Type 0 where
   pub meanings : Meanings
   pub layout : SourceLayout
   pub flags : Flags
+  pub variables : List CType
   pub stands : List Stand
   pub result : CType
 
 -- ---- what is known at a node
-
--- where a variable of the function stands. A name that is none has no such place
-abbrev pub stand_of : Around → Meant → Stand
-stand_of around (Local number) = slice_index_or around.stands number (Private 0)
-stand_of around (Global number) = Private 0
-stand_of around (Fun number) = Private 0
-stand_of around (Service number) = Private 0
-stand_of around (Builtin number) = Private 0
-
--- the number of a function
-abbrev pub function_number : Meant → ℕ
-function_number (Fun number) = number
-function_number (Global number) = 0
-function_number (Local number) = 0
-function_number (Service number) = 0
-function_number (Builtin number) = 0
 
 abbrev pub kind_at : Around → Reached → CType
 kind_at around r = slice_index_or around.meanings.kinds r.kind Void
@@ -98,6 +82,23 @@ declared_at around r = slice_index_or around.meanings.declared r.declaration Voi
 
 abbrev pub literal_at : Around → Reached → ℕ
 literal_at around r = slice_index around.layout.literals r.literal
+
+-- a name that means no function, no variable or no global has no such number: `check` refuses it where one is needed
+abbrev pub function_number : Meant → Option ℕ
+function_number (Fun number) = Some number
+function_number (Global number) = None
+function_number (Local number) = None
+function_number (Service number) = None
+function_number (Builtin number) = None
+
+abbrev pub local_number : Meant → Option ℕ
+local_number (Local number) = Some number
+local_number (Global number) = None
+local_number (Fun number) = None
+local_number (Service number) = None
+local_number (Builtin number) = None
+
+-- ---- on through the tree
 
 abbrev pub past_kind : Reached → Reached
 past_kind r = record r { kind = r.kind + 1 }

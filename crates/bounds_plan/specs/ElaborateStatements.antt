@@ -1,5 +1,5 @@
 -- What a statement of the tree is in the core tree.
-use Rattle.std.specs.Prelude.{ℕ, Option, None, Some, List, [], ◌∷◌, map}
+use Rattle.std.specs.Prelude.{ℕ, ◌+◌, Option, None, Some, List, [], ◌∷◌, map}
 use Rattle.mx_base.specs.declared.places.Place.{Place}
 use Rattle.c_tree.specs.declared.tree.Decl.{Decl}
 use Rattle.c_tree.specs.declared.tree.Expr.{Expr}
@@ -8,10 +8,10 @@ use Rattle.c_tree.specs.declared.tree.Stmt.{Stmt, fold-Stmt}
 use Rattle.c_tree.specs.declared.tree.StmtKind.{StmtKind-F}
 use Rattle.c_tree.specs.declared.tree.StmtKind.TheOpen as s
 use Rattle.c_types.specs.Types.{CType}
-use Rattle.bounds_plan.specs.Core.{NumberExpr, Word, Effect, Nothing, Statement, Skip, Do, Then, If, While, DoWhile, For, Break, Continue, Return, ReturnNumber, ReturnPtr}
-use Rattle.bounds_plan.specs.ElaborateTypes.{Value, Numeric, Address, number_in, size_in, given}
-use Rattle.bounds_plan.specs.ElaborateSource.{Reached, Around, declared_at, bind_at, past_declaration, stand_of}
-use Rattle.bounds_plan.specs.ElaboratePlaces.{variable_at}
+use Rattle.bounds_plan.specs.Core.{NumberExpr, Word, Null, Effect, Nothing, Statement, Skip, Do, Then, If, While, DoWhile, For, Break, Continue, Return, ReturnNumber, ReturnPtr}
+use Rattle.bounds_plan.specs.ElaborateTypes.{Value, Numeric, Address, number_in, given}
+use Rattle.bounds_plan.specs.ElaborateSource.{Reached, Around, declared_at, bind_at, past_declaration, local_number}
+use Rattle.bounds_plan.specs.ElaboratePlaces.{Lvalue, InMemory, variable_of}
 use Rattle.bounds_plan.specs.ElaborateExpressions.{Found, Reading, find_all}
 use Rattle.bounds_plan.specs.ElaborateInitialisers.{Filling}
 
@@ -64,10 +64,15 @@ maybe f (Some x) = Some (f x)
 abbrev pub past_counts : (Expr → Reading) → Decl → Around → Reached → Reached
 past_counts read d around r = (find_all (map read d.counts) around r).after
 
+-- a local by its number; what is declared in a body is one
+abbrev pub local_of : Around → Option ℕ → Lvalue
+local_of around None = InMemory Null
+local_of around (Some number) = variable_of around.structs around.variables around.stands 0 number
+
 -- a local is initialised where its declaration stands, each time that it is come by; without an initialiser nothing happens
 abbrev pub declared : Option Filling → Around → Reached → Stated
 declared None around r = stated Skip (past_declaration r)
-declared (Some init) around r = let x = init around (declared_at around r) (variable_at (stand_of around (bind_at around r)) (size_in around.structs (declared_at around r))) 0 (past_declaration r) in
+declared (Some init) around r = let x = init around (declared_at around r) (local_of around (local_number (bind_at around r))) 0 (past_declaration r) in
     stated (in_order x.effects) x.after
 
 abbrev pub return_of : Value → Statement
@@ -101,3 +106,28 @@ stmt_step read fill (s.Block all) around r = all_stated all around r
 
 abbrev pub statement_by : (Expr → Reading) → (Init → Filling) → Stmt → Stating
 statement_by read fill = fold-Stmt Stating Stating (stmt_step read fill) (λ x. x.kind)
+
+-- ---- how many variables a statement declares
+
+abbrev pub total : List ℕ → ℕ
+total [] = 0
+total (n ∷ ns) = n + total ns
+
+abbrev pub any : Option ℕ → ℕ
+any None = 0
+any (Some n) = n
+
+abbrev pub declares : StmtKind-F ℕ ℕ → ℕ
+declares (s.Value value) = 0
+declares (s.Local d init) = 1
+declares (s.If test a other) = a + any other
+declares (s.While test body) = body
+declares (s.DoWhile body test) = body
+declares (s.For first test next body) = body
+declares s.Break = 0
+declares s.Continue = 0
+declares (s.Return value) = 0
+declares (s.Block all) = total all
+
+abbrev pub declarations : Stmt → ℕ
+declarations = fold-Stmt ℕ ℕ declares (λ x. x.kind)

@@ -37,7 +37,7 @@ calculates = record {
     binds = Fun 0 ∷ Local 0 ∷ Local 1 ∷ Local 2 ∷ Local 3 ∷ Local 4 ∷ Local 3 ∷ Local 5 ∷ Local 6 ∷ Local 5 ∷ Local 0 ∷ Service 0 ∷ Local 1 ∷ Service 0 ∷ Local 2 ∷ Service 0 ∷ Local 4 ∷ Service 0 ∷ Local 3 ∷ Service 0 ∷ Local 5 ∷ Service 0 ∷ Local 5 ∷ Service 0 ∷ Local 5 ∷ Service 0 ∷ Local 3 ∷ Service 0 ∷ Local 0 ∷ Local 1 ∷ Service 0 ∷ Local 5 ∷ Service 0 ∷ Local 5 ∷ Local 3 ∷ Service 0 ∷ Local 5 ∷ Local 4 ∷ Service 0 ∷ Local 5 ∷ Service 0 ∷ Local 1 ∷ Service 0 ∷ Local 5 ∷ Service 0 ∷ Service 0 ∷ Service 0 ∷ Service 0 ∷ Local 6 ∷ Service 0 ∷ Local 5 ∷ Local 0 ∷ Local 3 ∷ Service 0 ∷ Service 0 ∷ Local 5 ∷ Local 1 ∷ Service 0 ∷ Local 4 ∷ Local 3 ∷ Service 0 ∷ Local 5 ∷ Service 0 ∷ Local 6 ∷ Local 5 ∷ Service 0 ∷ [];
     declared = Int I32 ∷ Int I8 ∷ Int U8 ∷ Int I16 ∷ Int U32 ∷ Int I64 ∷ Int I32 ∷ Int U64 ∷ [];
   };
-  layout = record { globals = []; functions = 0 ∷ []; texts = 1; literals = []; frames = record { size = 0; stands = Private 0 ∷ Private 1 ∷ Private 2 ∷ Private 3 ∷ Private 4 ∷ Private 5 ∷ Private 6 ∷ [] } ∷ [] };
+  layout = record { globals = []; functions = 0 ∷ []; texts = 1; literals = []; frames = record { size = 0; stands = Private ∷ Private ∷ Private ∷ Private ∷ Private ∷ Private ∷ Private ∷ [] } ∷ [] };
   literals = [];
 }
 
@@ -54,7 +54,7 @@ changes = record {
     binds = Fun 0 ∷ Local 0 ∷ Local 1 ∷ Local 2 ∷ Local 3 ∷ Local 0 ∷ Local 0 ∷ Service 0 ∷ Local 1 ∷ Local 1 ∷ Service 0 ∷ Local 1 ∷ Local 2 ∷ Local 1 ∷ Service 0 ∷ Local 1 ∷ Local 1 ∷ Service 0 ∷ Local 1 ∷ Local 1 ∷ Service 0 ∷ Local 2 ∷ Local 2 ∷ Service 0 ∷ Local 2 ∷ Local 2 ∷ Service 0 ∷ Local 3 ∷ Local 3 ∷ Service 0 ∷ Local 2 ∷ Local 2 ∷ Service 0 ∷ Local 2 ∷ Local 2 ∷ Service 0 ∷ Local 2 ∷ Local 2 ∷ Service 0 ∷ Local 1 ∷ Service 0 ∷ Local 1 ∷ Service 0 ∷ Local 1 ∷ Service 0 ∷ Local 1 ∷ Service 0 ∷ Local 3 ∷ Service 0 ∷ Local 3 ∷ Service 0 ∷ Local 0 ∷ Service 0 ∷ Local 1 ∷ Local 0 ∷ Service 0 ∷ [];
     declared = Int I32 ∷ Int I8 ∷ Int I32 ∷ Int I64 ∷ Int U8 ∷ [];
   };
-  layout = record { globals = []; functions = 0 ∷ []; texts = 1; literals = []; frames = record { size = 0; stands = Private 0 ∷ Private 1 ∷ Private 2 ∷ Private 3 ∷ [] } ∷ [] };
+  layout = record { globals = []; functions = 0 ∷ []; texts = 1; literals = []; frames = record { size = 0; stands = Private ∷ Private ∷ Private ∷ Private ∷ [] } ∷ [] };
   literals = [];
 }
 
@@ -78,7 +78,7 @@ points = record {
     binds = Global 0 ∷ Global 1 ∷ Global 2 ∷ Fun 0 ∷ Local 0 ∷ Global 0 ∷ Local 1 ∷ Local 2 ∷ Local 3 ∷ Local 4 ∷ Local 5 ∷ Local 0 ∷ Local 0 ∷ Global 0 ∷ Local 0 ∷ Global 0 ∷ Local 0 ∷ Global 0 ∷ Local 0 ∷ Service 0 ∷ Global 0 ∷ Service 0 ∷ Service 0 ∷ Global 1 ∷ Service 0 ∷ Local 0 ∷ Service 0 ∷ Global 1 ∷ Local 1 ∷ Global 1 ∷ Local 1 ∷ Service 0 ∷ Local 1 ∷ Service 0 ∷ Local 1 ∷ Service 0 ∷ Local 2 ∷ Global 1 ∷ Local 1 ∷ Local 2 ∷ Service 0 ∷ Local 2 ∷ Local 1 ∷ Service 0 ∷ Local 2 ∷ Local 1 ∷ Service 0 ∷ Local 1 ∷ Service 0 ∷ Global 2 ∷ Service 0 ∷ Global 2 ∷ Service 0 ∷ Local 2 ∷ Local 2 ∷ Global 1 ∷ Service 0 ∷ Local 2 ∷ Local 2 ∷ Local 2 ∷ Local 2 ∷ Service 0 ∷ Local 2 ∷ Service 0 ∷ Local 2 ∷ Local 2 ∷ Local 2 ∷ Service 0 ∷ Local 2 ∷ Service 0 ∷ Global 1 ∷ Global 1 ∷ Service 0 ∷ Local 4 ∷ Local 3 ∷ Local 4 ∷ Local 3 ∷ Service 0 ∷ Local 3 ∷ Service 0 ∷ Local 4 ∷ Service 0 ∷ Local 4 ∷ Service 0 ∷ Service 0 ∷ Local 4 ∷ Local 5 ∷ Local 4 ∷ Local 4 ∷ Service 0 ∷ Local 4 ∷ Local 4 ∷ Service 0 ∷ Service 0 ∷ Local 4 ∷ Local 5 ∷ Service 0 ∷ Local 4 ∷ Service 0 ∷ Local 0 ∷ [];
     declared = Int I8 ∷ Int I64 ∷ Pointer (Struct 0) ∷ Array (Int I16) 3 ∷ Struct 0 ∷ Array (Array (Int I32) 3) 2 ∷ Pointer (Int I64) ∷ Int I32 ∷ Pointer (Struct 0) ∷ Pointer (Int I32) ∷ Pointer (Int I32) ∷ Pointer (Pointer (Int I8)) ∷ Pointer (Int I8) ∷ Int I32 ∷ [];
   };
-  layout = record { globals = 0 ∷ 1 ∷ 2 ∷ []; functions = 3 ∷ []; texts = 4; literals = 0 ∷ []; frames = record { size = 16; stands = Private 0 ∷ Private 2 ∷ Private 4 ∷ Private 6 ∷ Frame 0 ∷ Private 8 ∷ [] } ∷ [] };
+  layout = record { globals = 0 ∷ 1 ∷ 2 ∷ []; functions = 3 ∷ []; texts = 4; literals = 0 ∷ []; frames = record { size = 16; stands = Private ∷ Private ∷ Private ∷ Private ∷ Frame 0 ∷ Private ∷ [] } ∷ [] };
   literals = 97 ∷ 98 ∷ 0 ∷ [];
 }
 
@@ -97,7 +97,7 @@ fills = record {
     binds = Fun 0 ∷ Local 0 ∷ Local 1 ∷ Local 0 ∷ Local 0 ∷ Local 2 ∷ Local 3 ∷ Local 4 ∷ Local 5 ∷ Local 5 ∷ Local 0 ∷ Local 6 ∷ Local 5 ∷ Local 7 ∷ Local 8 ∷ Local 0 ∷ Local 9 ∷ Local 1 ∷ Local 1 ∷ Local 1 ∷ Local 1 ∷ Service 0 ∷ Local 2 ∷ Service 0 ∷ Local 3 ∷ Service 0 ∷ Local 3 ∷ Service 0 ∷ Local 4 ∷ Service 0 ∷ Local 4 ∷ Service 0 ∷ Local 4 ∷ Service 0 ∷ Local 6 ∷ Local 6 ∷ Local 6 ∷ Local 6 ∷ Service 0 ∷ Local 6 ∷ Local 5 ∷ Service 0 ∷ Local 7 ∷ Local 7 ∷ Service 0 ∷ Local 8 ∷ Service 0 ∷ Local 9 ∷ Local 9 ∷ Service 0 ∷ Local 7 ∷ Local 6 ∷ Local 7 ∷ Service 0 ∷ Local 7 ∷ Service 0 ∷ Local 7 ∷ Local 7 ∷ Local 0 ∷ Local 7 ∷ Local 7 ∷ Local 0 ∷ Local 7 ∷ Service 0 ∷ Local 7 ∷ Local 5 ∷ Local 10 ∷ Local 10 ∷ Service 0 ∷ Local 0 ∷ Service 0 ∷ [];
     declared = Int I32 ∷ Array (Int I8) 4 ∷ Pointer (Struct 0) ∷ Array (Int I16) 2 ∷ Int I32 ∷ Int I32 ∷ Array (Int I32) 4 ∷ Array (Int I8) 3 ∷ Array (Int I8) 6 ∷ Array (Array (Int I8) 3) 2 ∷ Struct 0 ∷ Struct 0 ∷ Array (Struct 0) 2 ∷ Pointer (Int I32) ∷ Array (Pointer (Int I64)) 2 ∷ Int I32 ∷ [];
   };
-  layout = record { globals = []; functions = 0 ∷ []; texts = 1; literals = []; frames = record { size = 160; stands = Frame 0 ∷ Frame 4 ∷ Frame 20 ∷ Frame 23 ∷ Frame 29 ∷ Frame 40 ∷ Frame 64 ∷ Frame 88 ∷ Private 0 ∷ Frame 136 ∷ Private 2 ∷ [] } ∷ [] };
+  layout = record { globals = []; functions = 0 ∷ []; texts = 1; literals = []; frames = record { size = 160; stands = Frame 0 ∷ Frame 4 ∷ Frame 20 ∷ Frame 23 ∷ Frame 29 ∷ Frame 40 ∷ Frame 64 ∷ Frame 88 ∷ Private ∷ Frame 136 ∷ Private ∷ [] } ∷ [] };
   literals = [];
 }
 
@@ -119,6 +119,6 @@ goes_round = record {
     binds = Fun 0 ∷ Local 0 ∷ Local 1 ∷ Local 2 ∷ Local 0 ∷ Local 2 ∷ Local 2 ∷ Local 0 ∷ Local 1 ∷ Fun 1 ∷ Local 0 ∷ Local 1 ∷ Local 0 ∷ Local 1 ∷ Fun 2 ∷ Local 0 ∷ Local 0 ∷ Service 0 ∷ Fun 3 ∷ Local 0 ∷ Local 1 ∷ Local 2 ∷ Local 0 ∷ Local 0 ∷ Local 0 ∷ Local 1 ∷ Local 0 ∷ Local 1 ∷ Service 0 ∷ Local 1 ∷ Local 1 ∷ Local 1 ∷ Local 1 ∷ Local 1 ∷ Local 1 ∷ Service 0 ∷ Local 0 ∷ Local 0 ∷ Local 0 ∷ Local 3 ∷ Local 3 ∷ Local 3 ∷ Local 3 ∷ Local 0 ∷ Local 0 ∷ Local 3 ∷ Service 1 ∷ Local 0 ∷ Local 0 ∷ Service 0 ∷ Local 2 ∷ Fun 0 ∷ Service 0 ∷ Local 2 ∷ Fun 1 ∷ Service 0 ∷ Local 2 ∷ Fun 1 ∷ Local 2 ∷ Fun 1 ∷ Fun 0 ∷ Service 0 ∷ Fun 2 ∷ Fun 2 ∷ Service 2 ∷ Service 0 ∷ Local 2 ∷ Service 4 ∷ Service 0 ∷ Local 0 ∷ Local 0 ∷ Service 0 ∷ Service 0 ∷ Local 1 ∷ Service 5 ∷ [];
     declared = Int I32 ∷ Int I32 ∷ Pointer (Int I8) ∷ Pointer (Int I32) ∷ Pointer (Int I8) ∷ Pointer (Int I8) ∷ Int I64 ∷ Void ∷ Int I16 ∷ Int I32 ∷ Int I32 ∷ Int I32 ∷ Array (Int I8) 4 ∷ Int I32 ∷ [];
   };
-  layout = record { globals = []; functions = 0 ∷ 1 ∷ 2 ∷ 3 ∷ []; texts = 4; literals = []; frames = record { size = 16; stands = Frame 0 ∷ Private 0 ∷ Private 2 ∷ [] } ∷ record { size = 0; stands = Private 0 ∷ Private 2 ∷ [] } ∷ record { size = 0; stands = Private 0 ∷ [] } ∷ record { size = 16; stands = Private 0 ∷ Private 1 ∷ Frame 0 ∷ Private 2 ∷ [] } ∷ [] };
+  layout = record { globals = []; functions = 0 ∷ 1 ∷ 2 ∷ 3 ∷ []; texts = 4; literals = []; frames = record { size = 16; stands = Frame 0 ∷ Private ∷ Private ∷ [] } ∷ record { size = 0; stands = Private ∷ Private ∷ [] } ∷ record { size = 0; stands = Private ∷ [] } ∷ record { size = 16; stands = Private ∷ Private ∷ Frame 0 ∷ Private ∷ [] } ∷ [] };
   literals = [];
 }

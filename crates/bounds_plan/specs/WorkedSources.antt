@@ -118,7 +118,7 @@ fills_block = record {
     binds = Fun 0 ∷ Local 0 ∷ Service 3 ∷ Local 1 ∷ Local 1 ∷ Local 1 ∷ Local 1 ∷ Local 0 ∷ Local 1 ∷ Local 1 ∷ Local 0 ∷ Local 1 ∷ Service 0 ∷ [];
     declared = Int I32 ∷ Pointer (Int I8) ∷ Int I32 ∷ [];
   };
-  layout = record { globals = []; functions = 0 ∷ []; texts = 1; literals = []; frames = record { size = 0; stands = Private 0 ∷ Private 2 ∷ [] } ∷ [] };
+  layout = record { globals = []; functions = 0 ∷ []; texts = 1; literals = []; frames = record { size = 0; stands = Private ∷ Private ∷ [] } ∷ [] };
   literals = [];
 }
 
@@ -137,7 +137,7 @@ keeps_pointer = record {
     binds = Global 0 ∷ Global 1 ∷ Fun 0 ∷ Local 0 ∷ Global 1 ∷ Global 1 ∷ Global 0 ∷ Local 0 ∷ Local 0 ∷ Local 0 ∷ Local 0 ∷ Global 1 ∷ [];
     declared = Array (Int I8) 4 ∷ Pointer (Int I8) ∷ Int I32 ∷ Pointer (Int I8) ∷ [];
   };
-  layout = record { globals = 0 ∷ 1 ∷ []; functions = 2 ∷ []; texts = 3; literals = []; frames = record { size = 0; stands = Private 0 ∷ [] } ∷ [] };
+  layout = record { globals = 0 ∷ 1 ∷ []; functions = 2 ∷ []; texts = 3; literals = []; frames = record { size = 0; stands = Private ∷ [] } ∷ [] };
   literals = [];
 }
 
@@ -155,7 +155,7 @@ spoils_pointer = record {
     binds = Global 0 ∷ Global 1 ∷ Fun 0 ∷ Local 0 ∷ Global 1 ∷ Global 1 ∷ Global 0 ∷ Local 0 ∷ Local 0 ∷ Global 1 ∷ [];
     declared = Array (Int I8) 4 ∷ Pointer (Int I8) ∷ Int I32 ∷ Pointer (Int I8) ∷ [];
   };
-  layout = record { globals = 0 ∷ 1 ∷ []; functions = 2 ∷ []; texts = 3; literals = []; frames = record { size = 0; stands = Private 0 ∷ [] } ∷ [] };
+  layout = record { globals = 0 ∷ 1 ∷ []; functions = 2 ∷ []; texts = 3; literals = []; frames = record { size = 0; stands = Private ∷ [] } ∷ [] };
   literals = [];
 }
 
@@ -171,7 +171,7 @@ spreads_pointers = record {
     binds = Global 0 ∷ Fun 0 ∷ Local 0 ∷ Service 3 ∷ Local 0 ∷ Global 0 ∷ Local 0 ∷ Global 0 ∷ Local 0 ∷ Global 0 ∷ [];
     declared = Array (Int I8) 4 ∷ Int I32 ∷ Pointer (Pointer (Int I8)) ∷ [];
   };
-  layout = record { globals = 0 ∷ []; functions = 1 ∷ []; texts = 2; literals = []; frames = record { size = 0; stands = Private 0 ∷ [] } ∷ [] };
+  layout = record { globals = 0 ∷ []; functions = 1 ∷ []; texts = 2; literals = []; frames = record { size = 0; stands = Private ∷ [] } ∷ [] };
   literals = [];
 }
 
@@ -185,7 +185,7 @@ reads_last_byte = record {
     binds = Fun 0 ∷ Local 0 ∷ Builtin 3 ∷ Local 0 ∷ Service 0 ∷ [];
     declared = Int I32 ∷ Pointer (Int I64) ∷ [];
   };
-  layout = record { globals = []; functions = 0 ∷ []; texts = 1; literals = []; frames = record { size = 0; stands = Private 0 ∷ [] } ∷ [] };
+  layout = record { globals = []; functions = 0 ∷ []; texts = 1; literals = []; frames = record { size = 0; stands = Private ∷ [] } ∷ [] };
   literals = [];
 }
 
@@ -238,7 +238,7 @@ counts = record {
     binds = Fun 0 ∷ Local 0 ∷ Local 0 ∷ Local 0 ∷ Local 0 ∷ Service 0 ∷ [];
     declared = Int I32 ∷ Int I32 ∷ [];
   };
-  layout = record { globals = []; functions = 0 ∷ []; texts = 1; literals = []; frames = record { size = 0; stands = Private 0 ∷ [] } ∷ [] };
+  layout = record { globals = []; functions = 0 ∷ []; texts = 1; literals = []; frames = record { size = 0; stands = Private ∷ [] } ∷ [] };
   literals = [];
 }
 
@@ -253,7 +253,7 @@ descends_2 = record {
     binds = Fun 0 ∷ Local 0 ∷ Local 0 ∷ Local 0 ∷ Fun 0 ∷ Fun 1 ∷ Fun 0 ∷ [];
     declared = Int I32 ∷ Int I32 ∷ Int I32 ∷ [];
   };
-  layout = record { globals = []; functions = 0 ∷ 1 ∷ []; texts = 2; literals = []; frames = record { size = 0; stands = Private 0 ∷ [] } ∷ record { size = 0; stands = [] } ∷ [] };
+  layout = record { globals = []; functions = 0 ∷ 1 ∷ []; texts = 2; literals = []; frames = record { size = 0; stands = Private ∷ [] } ∷ record { size = 0; stands = [] } ∷ [] };
   literals = [];
 }
 
@@ -268,7 +268,7 @@ descends_1 = record {
     binds = Fun 0 ∷ Local 0 ∷ Local 0 ∷ Local 0 ∷ Fun 0 ∷ Fun 1 ∷ Fun 0 ∷ [];
     declared = Int I32 ∷ Int I32 ∷ Int I32 ∷ [];
   };
-  layout = record { globals = []; functions = 0 ∷ 1 ∷ []; texts = 2; literals = []; frames = record { size = 0; stands = Private 0 ∷ [] } ∷ record { size = 0; stands = [] } ∷ [] };
+  layout = record { globals = []; functions = 0 ∷ 1 ∷ []; texts = 2; literals = []; frames = record { size = 0; stands = Private ∷ [] } ∷ record { size = 0; stands = [] } ∷ [] };
   literals = [];
 }
 
@@ -296,7 +296,7 @@ frees_twice = record {
     binds = Fun 0 ∷ Local 0 ∷ Service 3 ∷ Local 0 ∷ Service 4 ∷ Service 0 ∷ Local 0 ∷ Service 4 ∷ Service 0 ∷ Service 2 ∷ Service 0 ∷ [];
     declared = Int I32 ∷ Pointer (Int I8) ∷ [];
   };
-  layout = record { globals = []; functions = 0 ∷ []; texts = 1; literals = []; frames = record { size = 0; stands = Private 0 ∷ [] } ∷ [] };
+  layout = record { globals = []; functions = 0 ∷ []; texts = 1; literals = []; frames = record { size = 0; stands = Private ∷ [] } ∷ [] };
   literals = [];
 }
 
