@@ -33,7 +33,7 @@ module _ (A B : Type 0) (f : ExprKind-F A B → A) (g : Expr-F A B → B) where
   commutes_exprs eb.member-ExprKind x = fold-roll-ExprKind A B f g x ∙ ap f (sym (map_is-ExprKind eb.the_family (ef.family A B) both_exprs x))
   commutes_exprs eb.member-Expr x = fold-roll-Expr A B f g x ∙ ap g (sym (map_is-Expr eb.the_family (ef.family A B) both_exprs x))
 
-  exprs_laid : (t : Expr) → fold-Expr A B f g t ≡ eb.laid-Expr (ef.family A B) (ef.steps A B f g) t
+  pub exprs_laid : (t : Expr) → fold-Expr A B f g t ≡ eb.laid-Expr (ef.family A B) (ef.steps A B f g) t
   unfolding fold
   exprs_laid t = fold_unique eb.the_members eb.the_sigs eb.the_carrier (ef.family A B) (ef.steps A B f g) both_exprs commutes_exprs eb.member-Expr t
 
@@ -47,7 +47,7 @@ module _ (A B : Type 0) (f : InitKind-F A B → A) (g : Init-F A B → B) where
   commutes_inits nb.member-InitKind x = fold-roll-InitKind A B f g x ∙ ap f (sym (map_is-InitKind nb.the_family (nf.family A B) both_inits x))
   commutes_inits nb.member-Init x = fold-roll-Init A B f g x ∙ ap g (sym (map_is-Init nb.the_family (nf.family A B) both_inits x))
 
-  inits_laid : (t : Init) → fold-Init A B f g t ≡ nb.laid-Init (nf.family A B) (nf.steps A B f g) t
+  pub inits_laid : (t : Init) → fold-Init A B f g t ≡ nb.laid-Init (nf.family A B) (nf.steps A B f g) t
   unfolding fold
   inits_laid t = fold_unique nb.the_members nb.the_sigs nb.the_carrier (nf.family A B) (nf.steps A B f g) both_inits commutes_inits nb.member-Init t
 
@@ -61,7 +61,7 @@ module _ (A B : Type 0) (f : StmtKind-F A B → A) (g : Stmt-F A B → B) where
   commutes_stmts sb.member-StmtKind x = fold-roll-StmtKind A B f g x ∙ ap f (sym (map_is-StmtKind sb.the_family (sf.family A B) both_stmts x))
   commutes_stmts sb.member-Stmt x = fold-roll-Stmt A B f g x ∙ ap g (sym (map_is-Stmt sb.the_family (sf.family A B) both_stmts x))
 
-  stmts_laid : (t : Stmt) → fold-Stmt A B f g t ≡ sb.laid-Stmt (sf.family A B) (sf.steps A B f g) t
+  pub stmts_laid : (t : Stmt) → fold-Stmt A B f g t ≡ sb.laid-Stmt (sf.family A B) (sf.steps A B f g) t
   unfolding fold
   stmts_laid t = fold_unique sb.the_members sb.the_sigs sb.the_carrier (sf.family A B) (sf.steps A B f g) both_stmts commutes_stmts sb.member-Stmt t
 

@@ -4,6 +4,7 @@ mod Entry
 mod Exprs
 mod Flows
 mod Laid
+mod Inductions
 mod Fresh
 mod Once
 mod Outside
