@@ -21,7 +21,7 @@ use Rattle.bounds_plan.specs.ElaborateSource.{Meanings, SourceLayout}
 use Rattle.bounds_plan.specs.ElaborateExpressions.{Reading, step, expression}
 use Rattle.bounds_plan.specs.ElaborateInitialisers.{Filling, init_step, initialiser}
 use Rattle.bounds_plan.specs.ElaborateStatements.{Stating, stmt_step, statement_by, declares, declarations}
-use Rattle.bounds_plan.specs.ElaborateFunctions.{Defined, body_by, elaborated, elaborated_by}
+use Rattle.bounds_plan.specs.ElaborateFunctions.{Gone, Defined, body_by, gone_by, elaborated}
 
 module _ (A B : Type 0) (f : ExprKind-F A B → A) (g : Expr-F A B → B) where
   abbrev both_exprs : (i : eb.the_members) → eb.the_family i → ef.family A B i
@@ -77,8 +77,8 @@ statement_laid read fill = sb.laid-Stmt (sf.family Stating Stating) (sf.steps St
 abbrev pub declarations_laid : Stmt → ℕ
 declarations_laid = sb.laid-Stmt (sf.family ℕ ℕ) (sf.steps ℕ ℕ declares (λ x. x.kind))
 
-abbrev pub elaborated_laid : Tree → Meanings → SourceLayout → Flags → List Defined
-elaborated_laid = elaborated_by expression_laid (initialiser_laid expression_laid) (body_by (statement_laid expression_laid (initialiser_laid expression_laid)) declarations_laid)
+abbrev pub gone_laid : Tree → Meanings → SourceLayout → Flags → Gone
+gone_laid = gone_by expression_laid (initialiser_laid expression_laid) (body_by (statement_laid expression_laid (initialiser_laid expression_laid)) declarations_laid)
 
 expressions_same : expression ≡ expression_laid
 expressions_same = λ i t. exprs_laid (Place → Reading) Reading step (λ x. x.kind x.place) t i
@@ -98,5 +98,8 @@ states_same = (λ i. statement_by (expressions_same i) (fills_same i)) ∙ state
 declarations_same : declarations ≡ declarations_laid
 declarations_same = λ i t. stmts_laid ℕ ℕ declares (λ x. x.kind) t i
 
+abbrev pub elaborated_laid : Tree → Meanings → SourceLayout → Flags → List Defined
+elaborated_laid tree meanings layout flags = (gone_laid tree meanings layout flags).functions
+
 pub elaborations_same : elaborated ≡ elaborated_laid
-elaborations_same = λ i. elaborated_by (expressions_same i) (fills_same i) (body_by (states_same i) (declarations_same i))
+elaborations_same = λ i tree meanings layout flags. (gone_by (expressions_same i) (fills_same i) (body_by (states_same i) (declarations_same i)) tree meanings layout flags).functions

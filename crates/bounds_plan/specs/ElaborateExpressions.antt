@@ -197,15 +197,21 @@ called_as APointer symbol args = Address (CallPtr symbol args)
 called_as AWhole symbol args = Numeric (Call symbol args)
 called_as NoValue symbol args = Numeric (Call symbol args)
 
--- an argument of a service or builtin as a number of this type, and as a pointer
+-- the argument of a number; where none is given, which `check` refuses, it is 0
 abbrev pub nothing_found : Found
 nothing_found = no_place Void (Numeric (Word 0)) record { file = 0; line = 1; col = 1 } start
 
+abbrev pub argument_at : ℕ → List Found → Found
+argument_at n [] = nothing_found
+argument_at zero (a ∷ more) = a
+argument_at (suc n) (a ∷ more) = argument_at n more
+
+-- an argument of a service or builtin as a number of this type, and as a pointer
 abbrev pub number_of_argument : IntKind → ℕ → List Found → NumberExpr
-number_of_argument kind n all = let a = slice_index_or all n nothing_found in converted (kind_of a.type) kind (number_in a.value)
+number_of_argument kind n all = converted (kind_of (argument_at n all).type) kind (number_in (argument_at n all).value)
 
 abbrev pub pointer_of_argument : ℕ → List Found → PointerExpr
-pointer_of_argument n all = wanted_pointer (slice_index_or all n nothing_found).value
+pointer_of_argument n all = wanted_pointer (argument_at n all).value
 
 -- void print(long), void put(int), int get(void), void *alloc(unsigned long), int free(void *), void exit(int)
 abbrev pub served : ℕ → List Found → Value

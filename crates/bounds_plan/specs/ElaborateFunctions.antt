@@ -166,10 +166,17 @@ at_start meanings layout flags = record {
   functions = [];
 }
 
--- the functions with a body of a source by what is found of its expressions, initialisers and statements
-unfoldable pub elaborated_by : (Expr → Reading) → (Init → Filling) → (Stmt → Body) → Tree → Meanings → SourceLayout → Flags → List Defined
-elaborated_by read fill state tree meanings layout flags = (after_items read fill state (at_start meanings layout flags) tree.items).functions
+-- a source gone through, by what is found of its expressions, initialisers and bodies
+unfoldable pub gone_by : (Expr → Reading) → (Init → Filling) → (Stmt → Body) → Tree → Meanings → SourceLayout → Flags → Gone
+gone_by read fill state tree meanings layout flags = after_items read fill state (at_start meanings layout flags) tree.items
+
+abbrev pub gone_through : Tree → Meanings → SourceLayout → Flags → Gone
+gone_through = gone_by expression (initialiser expression) (body_by (statement_by expression (initialiser expression)) declarations)
 
 -- the functions with a body of a source, in order
 abbrev pub elaborated : Tree → Meanings → SourceLayout → Flags → List Defined
-elaborated = elaborated_by expression (initialiser expression) (body_by (statement_by expression (initialiser expression)) declarations)
+elaborated tree meanings layout flags = (gone_through tree meanings layout flags).functions
+
+-- what its functions take and give, by number
+abbrev pub signatures_of : Tree → Meanings → SourceLayout → Flags → List Signature
+signatures_of tree meanings layout flags = (gone_through tree meanings layout flags).around.signatures
