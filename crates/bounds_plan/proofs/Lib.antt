@@ -4,6 +4,7 @@ mod Entry
 mod Exprs
 mod Flows
 mod Laid
+mod Fitting
 mod Inductions
 mod Fresh
 mod Once

@@ -23,3 +23,4 @@ pub mod Worked
 pub mod WorkedRuns
 pub mod WorkedSources
 pub mod WorkedForms
+pub mod ElaborateLaws

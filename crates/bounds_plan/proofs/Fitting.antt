@@ -1,0 +1,325 @@
+-- What a source is elaborated to names private values of the right sort and gives each call as many arguments as its symbol takes.
+use Rattle.std.proofs.Common.{◌≡◌, ℕ, zero, suc, ◌+◌, ◌==◌, not, Bool, true, false, refl, List, [], ◌∷◌, ◌++◌, map, length, if◌then◌else◌, ap, sym, ◌∙◌}
+use Rattle.std.specs.Prelude.{Option, None, Some, slice_get, slice_index_or}
+use Rattle.mx_base.specs.declared.numbers.IntKind.{IntKind}
+use Rattle.mx_base.specs.declared.numbers.IntKind.TheVariants.{I32, I64, U64}
+use Rattle.mx_base.specs.declared.places.Place.{Place}
+use Rattle.mx_base.specs.Operators.{Arithmetic, Times, Over, Rest, Plus, Minus, Left, Right, BitAnd, BitXor, BitOr, Comparison, arithmetic_at, comparison_at}
+use Rattle.c_tree.specs.declared.tree.ExprKind.{ExprKind-F}
+use Rattle.c_tree.specs.declared.tree.ExprKind.TheOpen as e
+use Rattle.c_tree.specs.declared.tree.Expr.{Expr, Expr-F}
+use Rattle.c_types.specs.Types.{CType, Void, StructType}
+use Rattle.bounds_plan.specs.Core.{NumberExpr, Word, Convert, PointerExpr, Null, Arguments, NoMore, WithNumber, WithPointer, Effect}
+use Rattle.bounds_plan.specs.Follows.{count, IsNumber, IsPointer, Fits, FitsPtr, FitsAll, FitsEffect}
+use Rattle.bounds_plan.specs.ElaborateTypes.{Value, Numeric, Address, number_in, pointer_in, Sort, ANumber, APointer, AWhole, NoValue, sort_of, kind_of, size_in, step_in, promoted, common, done_in, keeps, converted, right_operand, wanted_pointer, given_as, given, cast_as}
+use Rattle.bounds_plan.specs.ElaborateSource.{Meant, Global, Local, Fun, Service, Builtin, Reached, Signature, Around, kind_at, bind_at}
+use Rattle.bounds_plan.specs.ElaboratePlaces.{Lvalue, NumberVariable, PointerVariable, InMemory, address_in, loaded_as, read_as, stored_as, written_as, takes_away, changed_at, changed_as, variable_of}
+use Rattle.bounds_plan.specs.ElaborateExpressions.{Found, Reading, effect_of, no_place, a_place, symbol_of, named, literal, promoted_number, negative, inverse, is_zero, unary, calculated, distance, arithmetic, compared, binary_as, binary, chosen_as, assigned, struct_copied, assignment_effect, assignment, compound_at, changed, compound, assign_by, stepped_by, find_all, with_argument, arguments_for, called_as, nothing_found, argument_at, number_of_argument, pointer_of_argument, served, built_in, function_called, called, member, arrow, index, step, expression}
+use Rattle.bounds_plan.proofs.Inductions.{ExprA, ExprB, bare_exprs, bare_exprs_struct, every_exprs}
+
+module _ (private : ℕ) (is_bounds : ℕ → Bool) (takes : ℕ → ℕ) where
+  abbrev pub FitsValue : Value → Type 0
+  FitsValue (Numeric e) = Fits private is_bounds takes e
+  FitsValue (Address p) = FitsPtr private is_bounds takes p
+
+  abbrev pub FitsPlace : Lvalue → Type 0
+  FitsPlace (NumberVariable x) = IsNumber private is_bounds x
+  FitsPlace (PointerVariable x) = IsPointer private is_bounds x
+  FitsPlace (InMemory p) = FitsPtr private is_bounds takes p
+
+  pub record FitsFound (f : Found) : Type 0 where
+    pub value : FitsValue f.value
+    pub lvalue : FitsPlace f.lvalue
+    pub effect : FitsEffect private is_bounds takes f.effect
+
+  pub record Ready (around : Around) : Type 0 where
+    pub variables : (number : ℕ) → FitsPlace (variable_of around.structs around.variables around.stands 0 number)
+    pub calls : (number : ℕ) (s : Signature) → slice_get around.signatures number ≡ Some s → takes (symbol_of around number) ≡ length s.parameters
+
+  abbrev pub Good : Reading → Type 0
+  Good read = (around : Around) → Ready around → (r : Reached) → FitsFound (read around r)
+
+  abbrev pub GoodAt : (Place → Reading) → Type 0
+  GoodAt read = (place : Place) → Good (read place)
+
+  -- ---- values and places
+
+  number_fits : (v : Value) → FitsValue v → Fits private is_bounds takes (number_in v)
+  number_fits (Numeric e) h = h
+  number_fits (Address p) h = h
+
+  pointer_fits : (v : Value) → FitsValue v → FitsPtr private is_bounds takes (pointer_in v)
+  pointer_fits (Numeric e) h = h
+  pointer_fits (Address p) h = h
+
+  wanted_fits : (v : Value) → FitsValue v → FitsPtr private is_bounds takes (wanted_pointer v)
+  wanted_fits (Numeric e) h = tt
+  wanted_fits (Address p) h = h
+
+  pub effect_fits : (v : Value) → FitsValue v → FitsEffect private is_bounds takes (effect_of v)
+  effect_fits (Numeric e) h = h
+  effect_fits (Address p) h = h
+
+  kept_or_converted : (b : Bool) (to : IntKind) (e : NumberExpr) → Fits private is_bounds takes e → Fits private is_bounds takes (if b then e else Convert to e)
+  kept_or_converted true to e h = h
+  kept_or_converted false to e h = h
+
+  converted_fits : (from to : IntKind) (e : NumberExpr) → Fits private is_bounds takes e → Fits private is_bounds takes (converted from to e)
+  converted_fits from to e h = kept_or_converted (keeps from to) to e h
+
+  right_fits : (op : Arithmetic) (from to : IntKind) (e : NumberExpr) → Fits private is_bounds takes e → Fits private is_bounds takes (right_operand op from to e)
+  right_fits Times from to e h = converted_fits from to e h
+  right_fits Over from to e h = converted_fits from to e h
+  right_fits Rest from to e h = converted_fits from to e h
+  right_fits Plus from to e h = converted_fits from to e h
+  right_fits Minus from to e h = converted_fits from to e h
+  right_fits Left from to e h = h
+  right_fits Right from to e h = h
+  right_fits BitAnd from to e h = converted_fits from to e h
+  right_fits BitXor from to e h = converted_fits from to e h
+  right_fits BitOr from to e h = converted_fits from to e h
+
+  given_as_fits : (sort : Sort) (from : CType) (v : Value) → FitsValue v → FitsValue (given_as sort from v)
+  given_as_fits (ANumber kind) from v h = converted_fits (kind_of from) kind (number_in v) (number_fits v h)
+  given_as_fits APointer from v h = wanted_fits v h
+  given_as_fits AWhole from v h = h
+  given_as_fits NoValue from v h = h
+
+  pub given_fits : (to from : CType) (v : Value) → FitsValue v → FitsValue (given to from v)
+  given_fits to from v h = given_as_fits (sort_of to) from v h
+
+  cast_fits : (sort : Sort) (from : CType) (v : Value) → FitsValue v → FitsValue (cast_as sort from v)
+  cast_fits (ANumber kind) from v h = converted_fits (kind_of from) kind (number_in v) (number_fits v h)
+  cast_fits APointer from v h = pointer_fits v h
+  cast_fits AWhole from v h = h
+  cast_fits NoValue from v h = h
+
+  pub address_fits : (l : Lvalue) → FitsPlace l → FitsPtr private is_bounds takes (address_in l)
+  address_fits (NumberVariable x) h = tt
+  address_fits (PointerVariable x) h = tt
+  address_fits (InMemory p) h = h
+
+  loaded_fits : (sort : Sort) (place : Place) (p : PointerExpr) → FitsPtr private is_bounds takes p → FitsValue (loaded_as sort place p)
+  loaded_fits (ANumber kind) place p h = h
+  loaded_fits APointer place p h = h
+  loaded_fits AWhole place p h = h
+  loaded_fits NoValue place p h = h
+
+  read_fits : (sort : Sort) (place : Place) (l : Lvalue) → FitsPlace l → FitsValue (read_as sort place l)
+  read_fits sort place (NumberVariable x) h = h
+  read_fits sort place (PointerVariable x) h = h
+  read_fits sort place (InMemory p) h = loaded_fits sort place p h
+
+  stored_fits : (sort : Sort) (place : Place) (p : PointerExpr) (v : Value) → FitsPtr private is_bounds takes p → FitsValue v → FitsValue (stored_as sort place p v)
+  stored_fits (ANumber kind) place p v h k = (h, number_fits v k)
+  stored_fits APointer place p v h k = (h, pointer_fits v k)
+  stored_fits AWhole place p v h k = h
+  stored_fits NoValue place p v h k = h
+
+  pub written_fits : (sort : Sort) (place : Place) (l : Lvalue) (v : Value) → FitsPlace l → FitsValue v → FitsValue (written_as sort place l v)
+  written_fits sort place (NumberVariable x) v h k = (h, number_fits v k)
+  written_fits sort place (PointerVariable x) v h k = (h, pointer_fits v k)
+  written_fits sort place (InMemory p) v h k = stored_fits sort place p v h k
+
+  changed_at_fits : (sort : Sort) (place : Place) (p : PointerExpr) (op : Arithmetic) (from : IntKind) (size : ℕ) (e : NumberExpr) (old : Bool) → FitsPtr private is_bounds takes p → Fits private is_bounds takes e → FitsValue (changed_at sort place p op from size e old)
+  changed_at_fits (ANumber kind) place p op from size e old h k = (h, right_fits op from (done_in op kind from) e k)
+  changed_at_fits APointer place p op from size e old h k = (h, k)
+  changed_at_fits AWhole place p op from size e old h k = h
+  changed_at_fits NoValue place p op from size e old h k = h
+
+  changed_as_fits : (kind : IntKind) (sort : Sort) (place : Place) (l : Lvalue) (op : Arithmetic) (from : IntKind) (size : ℕ) (e : NumberExpr) (old : Bool) → FitsPlace l → Fits private is_bounds takes e → FitsValue (changed_as kind sort place l op from size e old)
+  changed_as_fits kind sort place (NumberVariable x) op from size e old h k = (h, right_fits op from (done_in op kind from) e k)
+  changed_as_fits kind sort place (PointerVariable x) op from size e old h k = (h, k)
+  changed_as_fits kind sort place (InMemory p) op from size e old h k = changed_at_fits sort place p op from size e old h k
+
+  -- ---- what is found
+
+  no_place_fits : (type : CType) (v : Value) (place : Place) (after : Reached) → FitsValue v → FitsFound (no_place type v place after)
+  no_place_fits type v place after h = record { value = h; lvalue = pointer_fits v h; effect = effect_fits v h }
+
+  a_place_fits : (type : CType) (l : Lvalue) (place : Place) (after : Reached) → FitsPlace l → FitsFound (a_place type l place after)
+  a_place_fits type l place after h = record { value = read_fits (sort_of type) place l h; lvalue = h; effect = effect_fits (read_as (sort_of type) place l) (read_fits (sort_of type) place l h) }
+
+  named_fits : (around : Around) → Ready around → (type : CType) (m : Meant) (place : Place) (after : Reached) → FitsFound (named around type m place after)
+  named_fits around ready type (Global number) place after = a_place_fits type _ place after tt
+  named_fits around ready type (Local number) place after = a_place_fits type (variable_of around.structs around.variables around.stands 0 number) place after (ready.variables number)
+  named_fits around ready type (Fun number) place after = no_place_fits type _ place after tt
+  named_fits around ready type (Service number) place after = no_place_fits type _ place after tt
+  named_fits around ready type (Builtin number) place after = no_place_fits type _ place after tt
+
+  either_fits : (b : Bool) (f g : Found) → FitsFound f → FitsFound g → FitsFound (if b then f else g)
+  either_fits true f g h k = h
+  either_fits false f g h k = k
+
+  -- ---- operators
+
+  promoted_fits : (a : Found) → FitsFound a → Fits private is_bounds takes (promoted_number a)
+  promoted_fits a h = converted_fits (kind_of a.type) (promoted (kind_of a.type)) (number_in a.value) (number_fits a.value h.value)
+
+  unary_fits : (op : ℕ) (type : CType) (a : Found) (place : Place) (after : Reached) → FitsFound a → FitsFound (unary op type a place after)
+  unary_fits op type a place after h = either_fits (op == 0) _ _ (no_place_fits type (Numeric (negative a)) place after (tt, promoted_fits a h))
+      (either_fits (op == 1) _ _ (no_place_fits type (Numeric (inverse a)) place after (tt, promoted_fits a h))
+      (either_fits (op == 2) _ _ (no_place_fits type (Numeric (is_zero a)) place after (number_fits a.value h.value, tt))
+      (either_fits (op == 3) _ _ (a_place_fits type (InMemory (pointer_in a.value)) place after (pointer_fits a.value h.value))
+      (no_place_fits type (Address (address_in a.lvalue)) place after (address_fits a.lvalue h.lvalue)))))
+
+  calculated_fits : (op : Arithmetic) (ka kb : IntKind) (a b : NumberExpr) → Fits private is_bounds takes a → Fits private is_bounds takes b → Fits private is_bounds takes (calculated op ka kb a b)
+  calculated_fits op ka kb a b h k = (converted_fits ka (done_in op ka kb) a h, right_fits op kb (done_in op ka kb) b k)
+
+  arithmetic_fits : (structs : List StructType) (op : Arithmetic) (s t : CType) (v w : Value) → FitsValue v → FitsValue w → FitsValue (arithmetic structs op s t v w)
+  arithmetic_fits structs op s t (Numeric a) (Numeric b) h k = calculated_fits op (kind_of s) (kind_of t) a b h k
+  arithmetic_fits structs op s t (Address p) (Numeric i) h k = (h, k)
+  arithmetic_fits structs op s t (Numeric i) (Address p) h k = (k, h)
+  arithmetic_fits structs op s t (Address p) (Address q) h k = ((h, k), tt)
+
+  compared_fits : (op : Comparison) (ka kb : IntKind) (v w : Value) → FitsValue v → FitsValue w → Fits private is_bounds takes (compared op ka kb v w)
+  compared_fits op ka kb (Numeric a) (Numeric b) h k = (converted_fits ka (common ka kb) a h, converted_fits kb (common ka kb) b k)
+  compared_fits op ka kb (Address p) (Numeric b) h k = (h, k)
+  compared_fits op ka kb (Numeric a) (Address q) h k = (h, k)
+  compared_fits op ka kb (Address p) (Address q) h k = (h, k)
+
+  either_number : (b : Bool) (x y : NumberExpr) → Fits private is_bounds takes x → Fits private is_bounds takes y → Fits private is_bounds takes (if b then x else y)
+  either_number true x y h k = h
+  either_number false x y h k = k
+
+  binary_as_fits : (o : Option Arithmetic) (c : Option Comparison) (n : ℕ) (around : Around) (a b : Found) → FitsFound a → FitsFound b → FitsValue (binary_as o c n around a b)
+  binary_as_fits (Some op) c n around a b h k = arithmetic_fits around.structs op a.type b.type a.value b.value h.value k.value
+  binary_as_fits None (Some op) n around a b h k = compared_fits op (kind_of a.type) (kind_of b.type) a.value b.value h.value k.value
+  binary_as_fits None None n around a b h k = either_number (n == 16) _ _ (number_fits a.value h.value, number_fits b.value k.value) (number_fits a.value h.value, number_fits b.value k.value)
+
+  chosen_fits : (sort : Sort) (c a b : Found) → FitsFound c → FitsFound a → FitsFound b → FitsValue (chosen_as sort c a b)
+  chosen_fits (ANumber kind) c a b h k l = (number_fits c.value h.value, converted_fits (kind_of a.type) kind (number_in a.value) (number_fits a.value k.value), converted_fits (kind_of b.type) kind (number_in b.value) (number_fits b.value l.value))
+  chosen_fits APointer c a b h k l = (number_fits c.value h.value, wanted_fits a.value k.value, wanted_fits b.value l.value)
+  chosen_fits AWhole c a b h k l = (number_fits c.value h.value, wanted_fits a.value k.value, wanted_fits b.value l.value)
+  chosen_fits NoValue c a b h k l = (number_fits c.value h.value, wanted_fits a.value k.value, wanted_fits b.value l.value)
+
+  -- ---- assignments
+
+  assigned_fits : (a b : Found) → FitsFound a → FitsFound b → FitsValue (assigned a b)
+  assigned_fits a b h k = written_fits (sort_of a.type) a.place a.lvalue (given a.type b.type b.value) h.lvalue (given_fits a.type b.type b.value k.value)
+
+  pub copied_fits : (structs : List StructType) (type : CType) (l : Lvalue) (to : Place) (b : Found) → FitsPlace l → FitsFound b → FitsEffect private is_bounds takes (struct_copied structs type l to b)
+  copied_fits structs type l to b h k = (address_fits l h, address_fits b.lvalue k.lvalue)
+
+  assignment_effect_fits : (sort : Sort) (structs : List StructType) (a b : Found) → FitsFound a → FitsFound b → FitsEffect private is_bounds takes (assignment_effect sort structs a b)
+  assignment_effect_fits (ANumber kind) structs a b h k = effect_fits (assigned a b) (assigned_fits a b h k)
+  assignment_effect_fits APointer structs a b h k = effect_fits (assigned a b) (assigned_fits a b h k)
+  assignment_effect_fits AWhole structs a b h k = copied_fits structs a.type a.lvalue a.place b h.lvalue k
+  assignment_effect_fits NoValue structs a b h k = effect_fits (assigned a b) (assigned_fits a b h k)
+
+  changed_fits : (structs : List StructType) (op : Arithmetic) (a : Found) (from : IntKind) (e : NumberExpr) (old : Bool) → FitsFound a → Fits private is_bounds takes e → FitsValue (changed structs op a from e old)
+  changed_fits structs op a from e old h k = changed_as_fits (kind_of a.type) (sort_of a.type) a.place a.lvalue op from (step_in structs a.type) e old h.lvalue k
+
+  assign_fits : (op : Option ℕ) (around : Around) (a b : Found) (place : Place) (after : Reached) → FitsFound a → FitsFound b → FitsFound (assign_by op around a b place after)
+  assign_fits None around a b place after h k = record { value = assigned_fits a b h k; lvalue = pointer_fits (assigned a b) (assigned_fits a b h k); effect = assignment_effect_fits (sort_of a.type) around.structs a b h k }
+  assign_fits (Some op) around a b place after h k = no_place_fits a.type (changed around.structs (compound_at op) a (kind_of b.type) (number_in b.value) false) place after
+      (changed_fits around.structs (compound_at op) a (kind_of b.type) (number_in b.value) false h (number_fits b.value k.value))
+
+  stepped_fits : (around : Around) (up before : Bool) (a : Found) (place : Place) (after : Reached) → FitsFound a → FitsFound (stepped_by around up before a place after)
+  stepped_fits around up before a place after h = no_place_fits a.type _ place after (changed_fits around.structs (if up then Plus else Minus) a I32 (Word 1) (not before) h tt)
+
+  -- ---- calls
+
+  pub AllFound_fit : List Found → Type 0
+  AllFound_fit [] = Unit {0}
+  AllFound_fit (a ∷ more) = FitsFound a × AllFound_fit more
+
+  found_all_fit : (all : List ((b : Reading) × Good b)) (around : Around) → Ready around → (r : Reached) → AllFound_fit (find_all (map (λ y. y.0) all) around r).all
+  unfolding AllFound_fit
+  found_all_fit [] around ready r = tt
+  found_all_fit (a ∷ more) around ready r = (a.1 around ready r, found_all_fit more around ready (a.0 around r).after)
+
+  with_fits : (v : Value) (rest : Arguments) → FitsValue v → FitsAll private is_bounds takes rest → FitsAll private is_bounds takes (with_argument v rest)
+  with_fits (Numeric e) rest h k = (h, k)
+  with_fits (Address p) rest h k = (h, k)
+
+  with_counts : (v : Value) (rest : Arguments) → count (with_argument v rest) ≡ suc (count rest)
+  with_counts (Numeric e) rest = refl
+  with_counts (Address p) rest = refl
+
+  arguments_fit : (types : List CType) (all : List Found) → AllFound_fit all → FitsAll private is_bounds takes (arguments_for types all)
+  unfolding AllFound_fit
+  arguments_fit [] all h = tt
+  arguments_fit (t ∷ ts) [] h = with_fits (given t Void (Numeric (Word 0))) (arguments_for ts []) (given_fits t Void (Numeric (Word 0)) tt) (arguments_fit ts [] tt)
+  arguments_fit (t ∷ ts) (a ∷ more) h = with_fits (given t a.type a.value) (arguments_for ts more) (given_fits t a.type a.value h.0.value) (arguments_fit ts more h.1)
+
+  arguments_count : (types : List CType) (all : List Found) → count (arguments_for types all) ≡ length types
+  arguments_count [] all = refl
+  arguments_count (t ∷ ts) [] = with_counts (given t Void (Numeric (Word 0))) (arguments_for ts []) ∙ ap suc (arguments_count ts [])
+  arguments_count (t ∷ ts) (a ∷ more) = with_counts (given t a.type a.value) (arguments_for ts more) ∙ ap suc (arguments_count ts more)
+
+  called_as_fits : (sort : Sort) (symbol : ℕ) (args : Arguments) → count args ≡ takes symbol → FitsAll private is_bounds takes args → FitsValue (called_as sort symbol args)
+  called_as_fits (ANumber kind) symbol args h k = (h, k)
+  called_as_fits APointer symbol args h k = (h, k)
+  called_as_fits AWhole symbol args h k = (h, k)
+  called_as_fits NoValue symbol args h k = (h, k)
+
+  function_called_fits : (around : Around) (type : CType) (number : ℕ) (o : Option Signature) (all : List Found) → ((s : Signature) → o ≡ Some s → takes (symbol_of around number) ≡ length s.parameters) → AllFound_fit all → FitsValue (function_called around type number o all)
+  function_called_fits around type number None all so h = tt
+  function_called_fits around type number (Some s) all so h = called_as_fits (sort_of type) (symbol_of around number) (arguments_for s.parameters all)
+      (arguments_count s.parameters all ∙ sym (so s refl)) (arguments_fit s.parameters all h)
+
+  argument_fits : (n : ℕ) (all : List Found) → AllFound_fit all → FitsFound (argument_at n all)
+  unfolding AllFound_fit
+  argument_fits n [] h = record { value = tt; lvalue = tt; effect = tt }
+  argument_fits zero (a ∷ more) h = h.0
+  argument_fits (suc n) (a ∷ more) h = argument_fits n more h.1
+
+  number_argument_fits : (kind : IntKind) (n : ℕ) (all : List Found) → AllFound_fit all → Fits private is_bounds takes (number_of_argument kind n all)
+  number_argument_fits kind n all h = converted_fits (kind_of (argument_at n all).type) kind (number_in (argument_at n all).value) (number_fits (argument_at n all).value (argument_fits n all h).value)
+
+  pointer_argument_fits : (n : ℕ) (all : List Found) → AllFound_fit all → FitsPtr private is_bounds takes (pointer_of_argument n all)
+  pointer_argument_fits n all h = wanted_fits (argument_at n all).value (argument_fits n all h).value
+
+  either_value : (b : Bool) (x y : Value) → FitsValue x → FitsValue y → FitsValue (if b then x else y)
+  either_value true x y h k = h
+  either_value false x y h k = k
+
+  either_pointer : (b : Bool) (x y : PointerExpr) → FitsPtr private is_bounds takes x → FitsPtr private is_bounds takes y → FitsPtr private is_bounds takes (if b then x else y)
+  either_pointer true x y h k = h
+  either_pointer false x y h k = k
+
+  served_fits : (number : ℕ) (all : List Found) → AllFound_fit all → FitsValue (served number all)
+  served_fits number all h = either_value (number == 0) _ _ (number_argument_fits I64 0 all h) (either_value (number == 1) _ _ (number_argument_fits I32 0 all h)
+      (either_value (number == 2) _ _ tt (either_value (number == 3) _ _ (number_argument_fits U64 0 all h) (either_value (number == 4) _ _ (pointer_argument_fits 0 all h) (number_argument_fits I32 0 all h)))))
+
+  built_in_fits : (number : ℕ) (all : List Found) → AllFound_fit all → FitsPtr private is_bounds takes (built_in number all)
+  built_in_fits number all h = either_pointer (number == 0) _ _ (pointer_argument_fits 0 all h, number_argument_fits U64 1 all h)
+      (either_pointer (number == 1) _ _ (pointer_argument_fits 0 all h, pointer_argument_fits 1 all h, number_argument_fits U64 2 all h)
+      (either_pointer (number == 2) _ _ (pointer_argument_fits 0 all h, pointer_argument_fits 1 all h) (either_pointer (number == 3) _ _ (pointer_argument_fits 0 all h)
+      (either_pointer (number == 4) _ _ (pointer_argument_fits 0 all h) (pointer_argument_fits 0 all h)))))
+
+  called_fits : (around : Around) → Ready around → (type : CType) (m : Meant) (all : List Found) → AllFound_fit all → FitsValue (called around type m all)
+  called_fits around ready type (Fun number) all h = function_called_fits around type number (slice_get around.signatures number) all (ready.calls number) h
+  called_fits around ready type (Service number) all h = served_fits number all h
+  called_fits around ready type (Builtin number) all h = built_in_fits number all h
+  called_fits around ready type (Global number) all h = tt
+  called_fits around ready type (Local number) all h = tt
+
+  -- ---- expressions
+  abbrev bare : ExprKind-F (ExprA (Place → Reading) Reading step (λ x. x.kind x.place) GoodAt Good) (ExprB (Place → Reading) Reading step (λ x. x.kind x.place) GoodAt Good) → ExprKind-F (Place → Reading) Reading
+  bare = bare_exprs (Place → Reading) Reading step (λ x. x.kind x.place) GoodAt Good
+
+  step_fits : (y : ExprKind-F (ExprA (Place → Reading) Reading step (λ x. x.kind x.place) GoodAt Good) (ExprB (Place → Reading) Reading step (λ x. x.kind x.place) GoodAt Good)) → GoodAt (step (bare y))
+  step_fits (e.Number n kind) place around ready r = no_place_fits (kind_at around r) (Numeric (Word n)) place _ tt
+  step_fits (e.Text bytes) place around ready r = record { value = tt; lvalue = tt; effect = tt }
+  step_fits (e.Var name) place around ready r = named_fits around ready (kind_at around r) (bind_at around r) place _
+  step_fits (e.Unary op a) place around ready r = unary_fits op _ (a.0 around r) place _ (a.1 around ready r)
+  step_fits (e.Binary op a c) place around ready r = no_place_fits _ (binary op around (a.0 around r) (c.0 around (a.0 around r).after)) place _
+      (binary_as_fits (arithmetic_at op) (comparison_at op) op around (a.0 around r) (c.0 around (a.0 around r).after) (a.1 around ready r) (c.1 around ready (a.0 around r).after))
+  step_fits (e.Assign op a c) place around ready r = assign_fits op around (a.0 around r) (c.0 around (a.0 around r).after) place _ (a.1 around ready r) (c.1 around ready (a.0 around r).after)
+  step_fits (e.StepBy up before a) place around ready r = stepped_fits around up before (a.0 around r) place _ (a.1 around ready r)
+  step_fits (e.Cond c a d) place around ready r = let x = c.0 around r in let y = a.0 around x.after in let z = d.0 around y.after in
+      no_place_fits (kind_at around z.after) (chosen_as (sort_of (kind_at around z.after)) x y z) place _ (chosen_fits (sort_of (kind_at around z.after)) x y z (c.1 around ready r) (a.1 around ready x.after) (d.1 around ready y.after))
+  step_fits (e.Call name all) place around ready r = let xs = find_all (map (λ y. y.0) all) around r in
+      no_place_fits (kind_at around xs.after) (called around (kind_at around xs.after) (bind_at around xs.after) xs.all) place _ (called_fits around ready (kind_at around xs.after) (bind_at around xs.after) xs.all (found_all_fit all around ready r))
+  step_fits (e.Index a i) place around ready r = let x = a.0 around r in let y = i.0 around x.after in
+      a_place_fits (kind_at around y.after) (index around (kind_at around y.after) x y) place _ (pointer_fits x.value (a.1 around ready r).value, number_fits y.value (i.1 around ready x.after).value)
+  step_fits (e.Member a name) place around ready r = let x = a.0 around r in a_place_fits (kind_at around x.after) (member around (kind_at around x.after) x name) place _ (pointer_fits x.value (a.1 around ready r).value)
+  step_fits (e.Arrow a name) place around ready r = let x = a.0 around r in a_place_fits (kind_at around x.after) (arrow around (kind_at around x.after) x name) place _ (pointer_fits x.value (a.1 around ready r).value)
+  step_fits (e.Cast base stars a) place around ready r = let x = a.0 around r in no_place_fits (kind_at around x.after) _ place _ (cast_fits (sort_of (kind_at around x.after)) x.type x.value (a.1 around ready r).value)
+  step_fits (e.SizeOfKind base stars) place around ready r = no_place_fits _ _ place _ tt
+  step_fits (e.SizeOfValue a) place around ready r = no_place_fits _ _ place _ tt
+
+  pub expressions_fit : (x : Expr) → Good (expression x)
+  expressions_fit x = every_exprs (Place → Reading) Reading step (λ x. x.kind x.place) GoodAt Good step_fits (λ y. y.kind.1 y.place) x

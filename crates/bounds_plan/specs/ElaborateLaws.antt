@@ -1,0 +1,14 @@
+-- What the functions that a source is elaborated to must be for their fat steps to do what they mean.
+use Rattle.std.specs.Prelude.{◌≡◌, ℕ, Some, List, [], ◌∷◌, length, slice_get, slice_index_or}
+use Rattle.bounds_plan.specs.Compiled.{FitsFunction}
+use Rattle.bounds_plan.specs.ElaborateSource.{SourceLayout, Signature}
+use Rattle.bounds_plan.specs.ElaborateFunctions.{Defined}
+
+-- each symbol of a function takes as many arguments as the function has parameters
+abbrev pub TakesParameters : (takes : ℕ → ℕ) → SourceLayout → List Signature → Type 0
+TakesParameters takes layout signatures = (number : ℕ) (s : Signature) → slice_get signatures number ≡ Some s → takes (slice_index_or layout.functions number 0) ≡ length s.parameters
+
+-- each function is as its steps have it
+abbrev pub AllFit : (takes : ℕ → ℕ) → List Defined → Type 0
+AllFit takes [] = Unit {0}
+AllFit takes (d ∷ more) = FitsFunction takes d.function × AllFit takes more
