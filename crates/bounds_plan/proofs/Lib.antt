@@ -5,6 +5,7 @@ mod Exprs
 mod Flows
 mod Laid
 mod Fitting
+mod FittingBodies
 mod Inductions
 mod Fresh
 mod Once
