@@ -6,6 +6,7 @@ mod Flows
 mod Laid
 mod Fitting
 mod FittingBodies
+mod FittingItems
 mod Inductions
 mod Fresh
 mod Once

@@ -1,10 +1,12 @@
 //! What C means: the core tree of a function, what it does, and the fat steps that it is compiled to.
 #![tactic(auto)]
 
+mod elaborate_laws;
 mod laws;
 mod sources;
 mod worked;
 
+pub use elaborate_laws::elaborated_functions_fit;
 pub use laws::{
     accesses_stay_within_bounds, bounds_have_roots, code_has_its_own_labels,
     compiled_bodies_do_what_they_mean, compiled_functions_do_what_they_mean,

@@ -1,0 +1,16 @@
+//! Laws of the elaboration of a source. Each function does nothing, and its contract is the law.
+
+ghost use Rattle.std.specs.Prelude.{ℕ};
+ghost use Rattle.mx_base.specs.declared.settings.Flags.{Flags as FlagsOf};
+ghost use Rattle.c_tree.specs.declared.tree.Tree.{Tree as TreeOf};
+ghost use Rattle.bounds_plan.specs.ElaborateSource.{Meanings, SourceLayout};
+ghost use Rattle.bounds_plan.specs.ElaborateFunctions.{elaborated, signatures_of};
+ghost use Rattle.bounds_plan.specs.ElaborateLaws.{TakesParameters, AllFit};
+
+/// Every function that a tree is elaborated to is as its steps have it, whatever its tree and layout are: its private parameters
+/// have the first of its private values, its body names only private values of the right sort, and each call gives as many
+/// arguments as its symbol takes, if that is as many as the called function has parameters. So the steps of the function do
+/// what it means.
+pub fn elaborated_functions_fit()
+    ensures { (tree : TreeOf) (meanings : Meanings) (layout : SourceLayout) (flags : FlagsOf) (takes : ℕ → ℕ) → TakesParameters takes layout (signatures_of tree meanings layout flags) → AllFit takes (elaborated tree meanings layout flags) }
+{}
