@@ -1,0 +1,4 @@
+pub mod Frames
+pub mod Data
+pub mod Locals
+pub mod Globals

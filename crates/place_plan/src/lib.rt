@@ -1,0 +1,10 @@
+//! Where variables stand: the plan of a source's data and of its functions' frames.
+#![tactic(auto)]
+
+mod data;
+mod frames;
+mod plan;
+
+pub use data::{GlobalVariable, place_globals};
+pub use frames::{Local, place_locals};
+pub use plan::{FramePlan, Plan, Spot};
