@@ -11,7 +11,7 @@ use Rattle.place_plan.specs.Frames.{Variable, values_of, free_after, free_after_
 pub next_enough : (n align : ℕ) → 1 ≤ align → n ≤ next_multiple n align
 next_enough n align some = let positive : 0 < align = some in omega (arith, lt-div-mul-add {a = n + (align - 1)} {b = align} positive)
 
-after_grows : (values : ℕ) (layout : Layout) (free : Free) → 1 ≤ layout.align → free.byte ≤ (free_after values layout free).byte
+pub after_grows : (values : ℕ) (layout : Layout) (free : Free) → 1 ≤ layout.align → free.byte ≤ (free_after values layout free).byte
 after_grows zero layout free some = omega (arith, next_enough free.byte layout.align some)
 after_grows (suc n) layout free some = omega arith
 

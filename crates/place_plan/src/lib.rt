@@ -3,8 +3,10 @@
 
 mod data;
 mod frames;
+mod laws;
 mod plan;
 
 pub use data::{GlobalVariable, place_globals};
 pub use frames::{Local, place_locals};
+pub use laws::variables_stand_apart;
 pub use plan::{FramePlan, Plan, Spot};
