@@ -169,7 +169,7 @@ module _ (private : ℕ) (is_bounds : ℕ → Bool) (takes : ℕ → ℕ) where
   arithmetic_fits : (structs : List StructType) (op : Arithmetic) (s t : CType) (v w : Value) → FitsValue v → FitsValue w → FitsValue (arithmetic structs op s t v w)
   arithmetic_fits structs op s t (Numeric a) (Numeric b) h k = calculated_fits op (kind_of s) (kind_of t) a b h k
   arithmetic_fits structs op s t (Address p) (Numeric i) h k = (h, k)
-  arithmetic_fits structs op s t (Numeric i) (Address p) h k = (k, h)
+  arithmetic_fits structs op s t (Numeric i) (Address p) h k = (h, k)
   arithmetic_fits structs op s t (Address p) (Address q) h k = ((h, k), tt)
 
   compared_fits : (op : Comparison) (ka kb : IntKind) (v w : Value) → FitsValue v → FitsValue w → Fits private is_bounds takes (compared op ka kb v w)

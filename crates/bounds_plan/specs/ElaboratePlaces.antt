@@ -9,7 +9,7 @@ use Rattle.mx_base.specs.Operators.{Arithmetic, Times, Over, Rest, Plus, Minus, 
 use Rattle.narrowing.specs.Member.{rule_of}
 use Rattle.c_types.specs.Types.{CType, Void, Int, Pointer, Array, Struct, StructType, members_of}
 use Rattle.c_types.specs.Layouts.{no_layout, layout_of, offsets_from}
-use Rattle.bounds_plan.specs.Core.{NumberExpr, Variable, Assign, Load, Store, Update, UpdateAt, PointerExpr, Null, Object, InFrame, VariablePtr, AssignPtr, Member, Element, LoadPtr, StorePtr, Advance, AdvanceAt}
+use Rattle.bounds_plan.specs.Core.{NumberExpr, Variable, Assign, Load, Store, Update, UpdateAt, PointerExpr, Null, Object, InFrame, VariablePtr, AssignPtr, Member, Element, ElementAfter, LoadPtr, StorePtr, Advance, AdvanceAt}
 use Rattle.bounds_plan.specs.ElaborateTypes.{Value, Numeric, Address, number_in, pointer_in, Sort, ANumber, APointer, AWhole, NoValue, sort_of, size_in, done_in, right_operand}
 use Rattle.bounds_plan.specs.ElaborateSource.{Stand, Private, Frame}
 
@@ -148,4 +148,4 @@ abbrev pub element_at : (minus : Bool) → (size : ℕ) → PointerExpr → (i :
 element_at minus size p i = Element minus size p i
 
 abbrev pub element_after : (size : ℕ) → (i : NumberExpr) → PointerExpr → PointerExpr
-element_after size i p = Element false size p i
+element_after size i p = ElementAfter size i p

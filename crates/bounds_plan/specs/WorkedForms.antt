@@ -122,3 +122,23 @@ goes_round = record {
   layout = record { globals = []; functions = 0 ∷ 1 ∷ 2 ∷ 3 ∷ []; texts = 4; literals = []; frames = record { size = 16; stands = Frame 0 ∷ Private ∷ Private ∷ [] } ∷ record { size = 0; stands = Private ∷ Private ∷ [] } ∷ record { size = 0; stands = Private ∷ [] } ∷ record { size = 16; stands = Private ∷ Private ∷ Frame 0 ∷ Private ∷ [] } ∷ [] };
   literals = [];
 }
+
+-- char t[4]; int one(void){ print(1); return 1; } char *two(void){ print(2); t[1] = 5; return t; } void set(char *p){ *p = 6; }
+-- int main(void){ char *p; int i = 0; print(*(one() + two())); print(*(two() + one())); p = i++ + t; print(p - t + i); set(1 + t); print(t[1]);
+-- return 0; }
+abbrev pub adds_in_order : Source
+adds_in_order = record {
+  tree = record { items = item 1 1 (k.Var false (decl 1 1 (b.Int I8) 0 (codes "t") (expr 1 8 (e.Number 4 I32) ∷ [])) None)
+    ∷ item 1 12 (k.Fun (decl 1 12 (b.Int I32) 0 (codes "one") ([])) ([]) (Some (stmt 1 25 (s.Block (stmt 1 27 (s.Value (Some (expr 1 27 (e.Call (codes "print") (expr 1 33 (e.Number 1 I32) ∷ []))))) ∷ stmt 1 37 (s.Return (Some (expr 1 44 (e.Number 1 I32)))) ∷ [])))))
+    ∷ item 1 49 (k.Fun (decl 1 49 (b.Int I8) 1 (codes "two") ([])) ([]) (Some (stmt 1 64 (s.Block (stmt 1 66 (s.Value (Some (expr 1 66 (e.Call (codes "print") (expr 1 72 (e.Number 2 I32) ∷ []))))) ∷ stmt 1 76 (s.Value (Some (expr 1 76 (e.Assign None (expr 1 76 (e.Index (expr 1 76 (e.Var (codes "t"))) (expr 1 78 (e.Number 1 I32)))) (expr 1 83 (e.Number 5 I32)))))) ∷ stmt 1 86 (s.Return (Some (expr 1 93 (e.Var (codes "t"))))) ∷ [])))))
+    ∷ item 1 98 (k.Fun (decl 1 98 b.Void 0 (codes "set") ([])) (decl 1 107 (b.Int I8) 1 (codes "p") ([]) ∷ []) (Some (stmt 1 115 (s.Block (stmt 1 117 (s.Value (Some (expr 1 117 (e.Assign None (expr 1 117 (e.Unary 3 (expr 1 118 (e.Var (codes "p"))))) (expr 1 122 (e.Number 6 I32)))))) ∷ [])))))
+    ∷ item 2 1 (k.Fun (decl 2 1 (b.Int I32) 0 (codes "main") ([])) ([]) (Some (stmt 2 15 (s.Block (stmt 2 17 (s.Local (decl 2 17 (b.Int I8) 1 (codes "p") ([])) None) ∷ stmt 2 26 (s.Local (decl 2 26 (b.Int I32) 0 (codes "i") ([])) (Some (init 2 34 (i.One (expr 2 34 (e.Number 0 I32)))))) ∷ stmt 2 37 (s.Value (Some (expr 2 37 (e.Call (codes "print") (expr 2 43 (e.Unary 3 (expr 2 45 (e.Binary 3 (expr 2 45 (e.Call (codes "one") ([]))) (expr 2 53 (e.Call (codes "two") ([])))))) ∷ []))))) ∷ stmt 2 62 (s.Value (Some (expr 2 62 (e.Call (codes "print") (expr 2 68 (e.Unary 3 (expr 2 70 (e.Binary 3 (expr 2 70 (e.Call (codes "two") ([]))) (expr 2 78 (e.Call (codes "one") ([])))))) ∷ []))))) ∷ stmt 2 87 (s.Value (Some (expr 2 87 (e.Assign None (expr 2 87 (e.Var (codes "p"))) (expr 2 91 (e.Binary 3 (expr 2 91 (e.StepBy true false (expr 2 91 (e.Var (codes "i"))))) (expr 2 97 (e.Var (codes "t"))))))))) ∷ stmt 2 100 (s.Value (Some (expr 2 100 (e.Call (codes "print") (expr 2 106 (e.Binary 3 (expr 2 106 (e.Binary 4 (expr 2 106 (e.Var (codes "p"))) (expr 2 110 (e.Var (codes "t"))))) (expr 2 114 (e.Var (codes "i")))) ∷ []))))) ∷ stmt 2 118 (s.Value (Some (expr 2 118 (e.Call (codes "set") (expr 2 122 (e.Binary 3 (expr 2 122 (e.Number 1 I32)) (expr 2 126 (e.Var (codes "t")))) ∷ []))))) ∷ stmt 2 130 (s.Value (Some (expr 2 130 (e.Call (codes "print") (expr 2 136 (e.Index (expr 2 136 (e.Var (codes "t"))) (expr 2 138 (e.Number 1 I32))) ∷ []))))) ∷ stmt 3 1 (s.Return (Some (expr 3 8 (e.Number 0 I32)))) ∷ [])))))
+    ∷ [] };
+  meanings = record {
+    kinds = Int I32 ∷ Int I32 ∷ Void ∷ Int I32 ∷ Int I32 ∷ Void ∷ Array (Int I8) 4 ∷ Int I32 ∷ Int I8 ∷ Int I32 ∷ Int I8 ∷ Array (Int I8) 4 ∷ Pointer (Int I8) ∷ Int I8 ∷ Int I32 ∷ Int I8 ∷ Int I32 ∷ Int I32 ∷ Pointer (Int I8) ∷ Pointer (Int I8) ∷ Int I8 ∷ Void ∷ Pointer (Int I8) ∷ Int I32 ∷ Pointer (Int I8) ∷ Int I8 ∷ Void ∷ Pointer (Int I8) ∷ Int I32 ∷ Int I32 ∷ Array (Int I8) 4 ∷ Pointer (Int I8) ∷ Pointer (Int I8) ∷ Pointer (Int I8) ∷ Array (Int I8) 4 ∷ Int I64 ∷ Int I32 ∷ Int I64 ∷ Void ∷ Int I32 ∷ Array (Int I8) 4 ∷ Pointer (Int I8) ∷ Void ∷ Array (Int I8) 4 ∷ Int I32 ∷ Int I8 ∷ Void ∷ Int I32 ∷ [];
+    binds = Global 0 ∷ Fun 0 ∷ Service 0 ∷ Fun 1 ∷ Service 0 ∷ Global 0 ∷ Global 0 ∷ Fun 2 ∷ Local 0 ∷ Local 0 ∷ Fun 3 ∷ Local 0 ∷ Local 1 ∷ Fun 0 ∷ Fun 1 ∷ Service 0 ∷ Fun 1 ∷ Fun 0 ∷ Service 0 ∷ Local 0 ∷ Local 1 ∷ Global 0 ∷ Local 0 ∷ Global 0 ∷ Local 1 ∷ Service 0 ∷ Global 0 ∷ Fun 2 ∷ Global 0 ∷ Service 0 ∷ [];
+    declared = Array (Int I8) 4 ∷ Int I32 ∷ Pointer (Int I8) ∷ Void ∷ Pointer (Int I8) ∷ Int I32 ∷ Pointer (Int I8) ∷ Int I32 ∷ [];
+  };
+  layout = record { globals = 0 ∷ []; functions = 1 ∷ 2 ∷ 3 ∷ 4 ∷ []; texts = 5; literals = []; frames = record { size = 0; stands = [] } ∷ record { size = 0; stands = [] } ∷ record { size = 0; stands = Private ∷ [] } ∷ record { size = 0; stands = Private ∷ Private ∷ [] } ∷ [] };
+  literals = [];
+}

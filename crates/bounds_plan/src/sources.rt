@@ -4,7 +4,7 @@ ghost use Rattle.std.specs.Prelude.{[], ◌∷◌, codes};
 ghost use Rattle.mx_base.specs.StopOfC.{Exit, Bounds, OutOfTurns, Divide, StackOver, Unmapped, AtPlace};
 ghost use Rattle.bounds_plan.specs.Worked.{ends, read, written, pair, at, array_and_pointer, first_object, pairs_of_pointers};
 ghost use Rattle.bounds_plan.specs.WorkedSources.{copies_pointers, counts, descends_1, descends_2, divides_by_0, fills_block, frees_twice, keeps_pointer, prints_7, prints_members, reads_last_byte, reads_past_end, spoils_pointer, spreads_pointers, writes_element_3, writes_element_4};
-ghost use Rattle.bounds_plan.specs.WorkedForms.{calculates, changes, points, fills, goes_round};
+ghost use Rattle.bounds_plan.specs.WorkedForms.{calculates, changes, points, fills, goes_round, adds_in_order};
 ghost use Rattle.bounds_plan.specs.WorkedRuns.{SaysSo, objects_apart};
 ghost use Rattle.bounds_plan.specs.WorkedRuns.{EndSo, narrowing, not_narrowing};
 
@@ -39,4 +39,5 @@ pub fn sources_with_every_form_say_so()
     ensures points { SaysSo points narrowing objects_apart 4096 0 1000 (Exit 9) (codes "19\n32\n8\n12\n6\n5\n5\n5\n2\n1\n1\n1\n1\n1\n1\n0\n5\n10\n10\n1\n98\n97\n97\n98\n4\n0\n2\n1\n5\n") }
     ensures fills { SaysSo fills narrowing objects_apart 4096 0 1000 (Exit 0) (codes "32\n99\n98\n0\n120\n0\n3\n128\n1\n1\n2\n1\n104\n48\n5\n9\n4\n") }
     ensures goes_round { SaysSo goes_round narrowing objects_apart 4096 3 1000 (Exit 13) (codes "18\n10\n2153767\n42\n3\n8\n77\n-1\n-1\n2\n") }
+    ensures adds_in_order { SaysSo adds_in_order narrowing objects_apart 4096 3 1000 (Exit 0) (codes "1\n2\n5\n2\n1\n5\n1\n6\n") }
 {}

@@ -19,7 +19,7 @@ use Rattle.bounds_plan.proofs.Laid.{elaborations_same, elaborated_laid}
 use Rattle.bounds_plan.specs.ElaborateFunctions.{gone_by}
 use Rattle.std.specs.Prelude.{codes, Some}
 use Rattle.mx_base.specs.StopOfC.{Exit}
-use Rattle.bounds_plan.specs.WorkedForms.{calculates, changes, points, fills, goes_round}
+use Rattle.bounds_plan.specs.WorkedForms.{calculates, changes, points, fills, goes_round, adds_in_order}
 use Rattle.bounds_plan.specs.WorkedRuns.{runs_of, steps_run_of, data_of, said, saying, narrowing, objects_apart}
 use Rattle.bounds_plan.proofs.sources.sources_with_every_form_say_so.Goals as goal
 
@@ -77,3 +77,14 @@ goes_round_steps_laid = refl
 
 pub returns-clause-goes_round : goal.returns-clause-goes_round
 returns-clause-goes_round c = (ap (λ e. said (runs_of (e goes_round.tree goes_round.meanings goes_round.layout narrowing) goes_round.layout.functions objects_apart (data_of goes_round objects_apart) 4096 3 [] 1000)) elaborations_same ∙ goes_round_laid, ap (λ e. said (steps_run_of (e goes_round.tree goes_round.meanings goes_round.layout narrowing) goes_round.layout.functions objects_apart (data_of goes_round objects_apart) 4096 3 1000)) elaborations_same ∙ goes_round_steps_laid)
+
+adds_in_order_laid : said (runs_of (elaborated_laid adds_in_order.tree adds_in_order.meanings adds_in_order.layout narrowing) adds_in_order.layout.functions objects_apart (data_of adds_in_order objects_apart) 4096 3 [] 1000) ≡ saying (Exit 0) (codes "1\n2\n5\n2\n1\n5\n1\n6\n")
+unfolding residue as_signed number_of value_of wrapped word_of extended arithmetic compares word_arithmetic word_compares moved last_byte leaving_value bounds_at is_sealed is_open_to_read is_open_to_write number_at with_number first_refused first_refused_around refusal touched_with keep_bounds load_bounds bounds_for rounded allocated freed served c_service pointer_written pointer_read digits stepped arithmetic_at comparison_at shape-the_row-Expr-0 hidden-the_row-Expr-0 shown-the_row-Expr-0 shape-the_row-Expr-1 hidden-the_row-Expr-1 shown-the_row-Expr-1 shape-the_row-Init-0 hidden-the_row-Init-0 shown-the_row-Init-0 shape-the_row-Stmt-0 hidden-the_row-Stmt-0 shown-the_row-Stmt-0 shape-the_row-Stmt-1 hidden-the_row-Stmt-1 shown-the_row-Stmt-1 hidden runs_of gone_by
+adds_in_order_laid = refl
+
+adds_in_order_steps_laid : said (steps_run_of (elaborated_laid adds_in_order.tree adds_in_order.meanings adds_in_order.layout narrowing) adds_in_order.layout.functions objects_apart (data_of adds_in_order objects_apart) 4096 3 1000) ≡ saying (Exit 0) (codes "1\n2\n5\n2\n1\n5\n1\n6\n")
+unfolding residue as_signed number_of value_of wrapped word_of extended arithmetic compares word_arithmetic word_compares moved last_byte leaving_value bounds_at is_sealed is_open_to_read is_open_to_write number_at with_number first_refused first_refused_around refusal touched_with keep_bounds load_bounds bounds_for rounded allocated freed served c_service pointer_written pointer_read digits stepped arithmetic_at comparison_at shape-the_row-Expr-0 hidden-the_row-Expr-0 shown-the_row-Expr-0 shape-the_row-Expr-1 hidden-the_row-Expr-1 shown-the_row-Expr-1 shape-the_row-Init-0 hidden-the_row-Init-0 shown-the_row-Init-0 shape-the_row-Stmt-0 hidden-the_row-Stmt-0 shown-the_row-Stmt-0 shape-the_row-Stmt-1 hidden-the_row-Stmt-1 shown-the_row-Stmt-1 hidden steps_run_of gone_by
+adds_in_order_steps_laid = refl
+
+pub returns-clause-adds_in_order : goal.returns-clause-adds_in_order
+returns-clause-adds_in_order c = (ap (λ e. said (runs_of (e adds_in_order.tree adds_in_order.meanings adds_in_order.layout narrowing) adds_in_order.layout.functions objects_apart (data_of adds_in_order objects_apart) 4096 3 [] 1000)) elaborations_same ∙ adds_in_order_laid, ap (λ e. said (steps_run_of (e adds_in_order.tree adds_in_order.meanings adds_in_order.layout narrowing) adds_in_order.layout.functions objects_apart (data_of adds_in_order objects_apart) 4096 3 1000)) elaborations_same ∙ adds_in_order_steps_laid)
