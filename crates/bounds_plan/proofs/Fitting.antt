@@ -157,8 +157,8 @@ module _ (private : ℕ) (is_bounds : ℕ → Bool) (takes : ℕ → ℕ) where
   promoted_fits a h = converted_fits (kind_of a.type) (promoted (kind_of a.type)) (number_in a.value) (number_fits a.value h.value)
 
   unary_fits : (op : ℕ) (type : CType) (a : Found) (place : Place) (after : Reached) → FitsFound a → FitsFound (unary op type a place after)
-  unary_fits op type a place after h = either_fits (op == 0) _ _ (no_place_fits type (Numeric (negative a)) place after (tt, promoted_fits a h))
-      (either_fits (op == 1) _ _ (no_place_fits type (Numeric (inverse a)) place after (tt, promoted_fits a h))
+  unary_fits op type a place after h = either_fits (op == 0) _ _ (no_place_fits type (Numeric (negative a)) place after (promoted_fits a h, tt))
+      (either_fits (op == 1) _ _ (no_place_fits type (Numeric (inverse a)) place after (promoted_fits a h, tt))
       (either_fits (op == 2) _ _ (no_place_fits type (Numeric (is_zero a)) place after (number_fits a.value h.value, tt))
       (either_fits (op == 3) _ _ (a_place_fits type (InMemory (pointer_in a.value)) place after (pointer_fits a.value h.value))
       (no_place_fits type (Address (address_in a.lvalue)) place after (address_fits a.lvalue h.lvalue)))))

@@ -68,13 +68,17 @@ literal around type place bytes r = record (no_place type (Address (Object aroun
 abbrev pub promoted_number : Found → NumberExpr
 promoted_number a = converted (kind_of a.type) (promoted (kind_of a.type)) (number_in a.value)
 
--- 0 less the number
-abbrev pub negative : Found → NumberExpr
-negative a = Operate Minus (promoted (kind_of a.type)) (Word 0) (promoted_number a)
+-- the word of the number -1
+abbrev pub minus_one : ℕ
+minus_one = 0xffff_ffff_ffff_ffff
 
--- every bit turned: -1 less the number
+-- the number times -1
+abbrev pub negative : Found → NumberExpr
+negative a = Operate Times (promoted (kind_of a.type)) (promoted_number a) (Word minus_one)
+
+-- every bit turned
 abbrev pub inverse : Found → NumberExpr
-inverse a = Operate Minus (promoted (kind_of a.type)) (Word 0xffff_ffff_ffff_ffff) (promoted_number a)
+inverse a = Operate BitXor (promoted (kind_of a.type)) (promoted_number a) (Word minus_one)
 
 -- whether the number or the address is 0
 abbrev pub is_zero : Found → NumberExpr
