@@ -84,6 +84,24 @@ module _ (A B : Type 0) (f : ExprKind-F A B → A) (g : Expr-F A B → B) (GoodA
     pub every_exprs : (t : Expr) → GoodB (fold-Expr A B f g t)
     every_exprs t = subst GoodB (same_exprs t) (fold-Expr ExprA ExprB step_exprs step_exprs_struct t).1
 
+-- a fold whose results are mapped to those of another one
+module _ (A B A' B' : Type 0) (f : ExprKind-F A B → A) (g : Expr-F A B → B) (f' : ExprKind-F A' B' → A') (g' : Expr-F A' B' → B') (h : A → A') (h' : B → B') where
+  module _ (here : (y : ExprKind-F A B) → h (f y) ≡ f' (ef.map-ExprKind A B A' B' h h' y)) (struct : (y : Expr-F A B) → h' (g y) ≡ g' (ef.map-Expr A B A' B' h h' y)) where
+    abbrev mapped_exprs : (i : eb.the_members) → eb.the_family i → ef.family A' B' i
+    mapped_exprs eb.member-ExprKind t = h (fold-ExprKind A B f g t)
+    mapped_exprs eb.member-Expr t = h' (fold-Expr A B f g t)
+
+    goes_on_exprs : (i : eb.the_members) (x : (eb.the_bodies i).Of eb.the_family) → mapped_exprs i (roll eb.the_members eb.the_sigs eb.the_carrier i x) ≡ ef.steps A' B' f' g' i ((eb.the_bodies i).map eb.the_family (ef.family A' B') mapped_exprs x)
+    unfolding roll-ExprKind roll
+    goes_on_exprs eb.member-ExprKind x = ap h (fold-roll-ExprKind A B f g x) ∙ (here (ef.map-ExprKind ExprKind Expr A B (fold-ExprKind A B f g) (fold-Expr A B f g) x)
+        ∙ (ap f' (exprs_join ExprKind Expr A B A' B' (fold-ExprKind A B f g) (fold-Expr A B f g) h h' x) ∙ ap f' (sym (map_is-ExprKind eb.the_family (ef.family A' B') mapped_exprs x))))
+    goes_on_exprs eb.member-Expr x = ap h' (fold-roll-Expr A B f g x) ∙ (struct (ef.map-Expr ExprKind Expr A B (fold-ExprKind A B f g) (fold-Expr A B f g) x)
+        ∙ ap g' (sym (map_is-Expr eb.the_family (ef.family A' B') mapped_exprs x)))
+
+    pub exprs_fused : (t : Expr) → h' (fold-Expr A B f g t) ≡ fold-Expr A' B' f' g' t
+    unfolding fold
+    exprs_fused t = fold_unique eb.the_members eb.the_sigs eb.the_carrier (ef.family A' B') (ef.steps A' B' f' g') mapped_exprs goes_on_exprs eb.member-Expr t ∙ sym (exprs_laid A' B' f' g' t)
+
 -- ---- Init
 
 module _ (Y Y' Z Z' V V' : Type 0) (g : Y → Z) (g' : Y' → Z') (h : Z → V) (h' : Z' → V') where
@@ -130,6 +148,24 @@ module _ (A B : Type 0) (f : InitKind-F A B → A) (g : Init-F A B → B) (GoodA
 
     pub every_inits : (t : Init) → GoodB (fold-Init A B f g t)
     every_inits t = subst GoodB (same_inits t) (fold-Init InitA InitB step_inits step_inits_struct t).1
+
+-- a fold whose results are mapped to those of another one
+module _ (A B A' B' : Type 0) (f : InitKind-F A B → A) (g : Init-F A B → B) (f' : InitKind-F A' B' → A') (g' : Init-F A' B' → B') (h : A → A') (h' : B → B') where
+  module _ (here : (y : InitKind-F A B) → h (f y) ≡ f' (nf.map-InitKind A B A' B' h h' y)) (struct : (y : Init-F A B) → h' (g y) ≡ g' (nf.map-Init A B A' B' h h' y)) where
+    abbrev mapped_inits : (i : nb.the_members) → nb.the_family i → nf.family A' B' i
+    mapped_inits nb.member-InitKind t = h (fold-InitKind A B f g t)
+    mapped_inits nb.member-Init t = h' (fold-Init A B f g t)
+
+    goes_on_inits : (i : nb.the_members) (x : (nb.the_bodies i).Of nb.the_family) → mapped_inits i (roll nb.the_members nb.the_sigs nb.the_carrier i x) ≡ nf.steps A' B' f' g' i ((nb.the_bodies i).map nb.the_family (nf.family A' B') mapped_inits x)
+    unfolding roll-InitKind roll
+    goes_on_inits nb.member-InitKind x = ap h (fold-roll-InitKind A B f g x) ∙ (here (nf.map-InitKind InitKind Init A B (fold-InitKind A B f g) (fold-Init A B f g) x)
+        ∙ (ap f' (inits_join InitKind Init A B A' B' (fold-InitKind A B f g) (fold-Init A B f g) h h' x) ∙ ap f' (sym (map_is-InitKind nb.the_family (nf.family A' B') mapped_inits x))))
+    goes_on_inits nb.member-Init x = ap h' (fold-roll-Init A B f g x) ∙ (struct (nf.map-Init InitKind Init A B (fold-InitKind A B f g) (fold-Init A B f g) x)
+        ∙ ap g' (sym (map_is-Init nb.the_family (nf.family A' B') mapped_inits x)))
+
+    pub inits_fused : (t : Init) → h' (fold-Init A B f g t) ≡ fold-Init A' B' f' g' t
+    unfolding fold
+    inits_fused t = fold_unique nb.the_members nb.the_sigs nb.the_carrier (nf.family A' B') (nf.steps A' B' f' g') mapped_inits goes_on_inits nb.member-Init t ∙ sym (inits_laid A' B' f' g' t)
 
 -- ---- Stmt
 
@@ -186,3 +222,21 @@ module _ (A B : Type 0) (f : StmtKind-F A B → A) (g : Stmt-F A B → B) (GoodA
 
     pub every_stmts : (t : Stmt) → GoodB (fold-Stmt A B f g t)
     every_stmts t = subst GoodB (same_stmts t) (fold-Stmt StmtA StmtB step_stmts step_stmts_struct t).1
+
+-- a fold whose results are mapped to those of another one
+module _ (A B A' B' : Type 0) (f : StmtKind-F A B → A) (g : Stmt-F A B → B) (f' : StmtKind-F A' B' → A') (g' : Stmt-F A' B' → B') (h : A → A') (h' : B → B') where
+  module _ (here : (y : StmtKind-F A B) → h (f y) ≡ f' (sf.map-StmtKind A B A' B' h h' y)) (struct : (y : Stmt-F A B) → h' (g y) ≡ g' (sf.map-Stmt A B A' B' h h' y)) where
+    abbrev mapped_stmts : (i : sb.the_members) → sb.the_family i → sf.family A' B' i
+    mapped_stmts sb.member-StmtKind t = h (fold-StmtKind A B f g t)
+    mapped_stmts sb.member-Stmt t = h' (fold-Stmt A B f g t)
+
+    goes_on_stmts : (i : sb.the_members) (x : (sb.the_bodies i).Of sb.the_family) → mapped_stmts i (roll sb.the_members sb.the_sigs sb.the_carrier i x) ≡ sf.steps A' B' f' g' i ((sb.the_bodies i).map sb.the_family (sf.family A' B') mapped_stmts x)
+    unfolding roll-StmtKind roll
+    goes_on_stmts sb.member-StmtKind x = ap h (fold-roll-StmtKind A B f g x) ∙ (here (sf.map-StmtKind StmtKind Stmt A B (fold-StmtKind A B f g) (fold-Stmt A B f g) x)
+        ∙ (ap f' (stmts_join StmtKind Stmt A B A' B' (fold-StmtKind A B f g) (fold-Stmt A B f g) h h' x) ∙ ap f' (sym (map_is-StmtKind sb.the_family (sf.family A' B') mapped_stmts x))))
+    goes_on_stmts sb.member-Stmt x = ap h' (fold-roll-Stmt A B f g x) ∙ (struct (sf.map-Stmt StmtKind Stmt A B (fold-StmtKind A B f g) (fold-Stmt A B f g) x)
+        ∙ ap g' (sym (map_is-Stmt sb.the_family (sf.family A' B') mapped_stmts x)))
+
+    pub stmts_fused : (t : Stmt) → h' (fold-Stmt A B f g t) ≡ fold-Stmt A' B' f' g' t
+    unfolding fold
+    stmts_fused t = fold_unique sb.the_members sb.the_sigs sb.the_carrier (sf.family A' B') (sf.steps A' B' f' g') mapped_stmts goes_on_stmts sb.member-Stmt t ∙ sym (stmts_laid A' B' f' g' t)

@@ -7,6 +7,7 @@ mod Laid
 mod Fitting
 mod FittingBodies
 mod FittingItems
+mod Waiting
 mod Inductions
 mod Fresh
 mod Once

@@ -24,3 +24,4 @@ pub mod WorkedRuns
 pub mod WorkedSources
 pub mod WorkedForms
 pub mod ElaborateLaws
+pub mod ElaborateWaits
