@@ -167,3 +167,72 @@ named_short w around type (Builtin number) place after = no_place_short w type _
 either_short : (w : ℕ) (b : Bool) (f g : Found) → Short w f → Short w g → Short w (if b then f else g)
 either_short w true f g h k = h
 either_short w false f g h k = k
+
+-- ---- operators
+
+promoted_short : (n : ℕ) (a : Found) → pairs_value a.value ≤ n → pairs (promoted_number a) ≤ n
+promoted_short n a h = converted_short n (kind_of a.type) (promoted (kind_of a.type)) (number_in a.value) (number_short n a.value h)
+
+unary_short : (w : ℕ) (op : ℕ) (type : CType) (a : Found) (place : Place) (after : Reached) → Short w a → Short w (unary op type a place after)
+unary_short w op type a place after h = either_short w (op == 0) _ _ (no_place_short w type (Numeric (negative a)) place after (omega (arith, promoted_short (w + 7) a h.value)))
+    (either_short w (op == 1) _ _ (no_place_short w type (Numeric (inverse a)) place after (omega (arith, promoted_short (w + 7) a h.value)))
+    (either_short w (op == 2) _ _ (no_place_short w type (Numeric (is_zero a)) place after (omega (arith, number_short (w + 7) a.value h.value)))
+    (either_short w (op == 3) _ _ (a_place_short w type (InMemory (pointer_in a.value)) place after (pointer_short (w + 7) a.value (omega arith) h.value))
+    (no_place_short w type (Address (address_in a.lvalue)) place after (address_short (w + 7) a.lvalue (omega arith) h.lvalue)))))
+
+arithmetic_short : (n : ℕ) (structs : List StructType) (op : Arithmetic) (s t : CType) (v u : Value) → 2 ≤ n → pairs_value v ≤ n + 1 → pairs_value u ≤ n → pairs_value (arithmetic structs op s t v u) ≤ n + 1
+arithmetic_short n structs op s t (Numeric a) (Numeric b) two h k = omega (arith, converted_short (n + 1) (kind_of s) (done_in op (kind_of s) (kind_of t)) a h, right_short n op (kind_of t) (done_in op (kind_of s) (kind_of t)) b k)
+arithmetic_short n structs op s t (Address p) (Numeric i) two h k = omega arith
+arithmetic_short n structs op s t (Numeric i) (Address p) two h k = omega arith
+arithmetic_short n structs op s t (Address p) (Address q) two h k = omega arith
+
+compared_short : (n : ℕ) (op : Comparison) (ka kb : IntKind) (v u : Value) → pairs_value v ≤ n + 1 → pairs_value u ≤ n → pairs (compared op ka kb v u) ≤ n + 1
+compared_short n op ka kb (Numeric a) (Numeric b) h k = omega (arith, converted_short (n + 1) ka (common ka kb) a h, converted_short n kb (common ka kb) b k)
+compared_short n op ka kb (Address p) (Numeric b) h k = omega arith
+compared_short n op ka kb (Numeric a) (Address q) h k = omega arith
+compared_short n op ka kb (Address p) (Address q) h k = omega arith
+
+either_pairs : (n : ℕ) (b : Bool) (x y : NumberExpr) → pairs x ≤ n → pairs y ≤ n → pairs (if b then x else y) ≤ n
+either_pairs n true x y h k = h
+either_pairs n false x y h k = k
+
+-- an operator that is not `&&` or `||` has its left operand wait
+calculating_short : (n : ℕ) (o : Option Arithmetic) (c : Option Comparison) (op : ℕ) (around : Around) (a b : Found) → 2 ≤ n → pairs_value a.value ≤ n + 1 → pairs_value b.value ≤ n → pairs_value (binary_as o c op around a b) ≤ n + 1
+calculating_short n (Some o) c op around a b two h k = arithmetic_short n around.structs o a.type b.type a.value b.value two h k
+calculating_short n None (Some c) op around a b two h k = compared_short n c (kind_of a.type) (kind_of b.type) a.value b.value h k
+calculating_short n None None op around a b two h k = either_pairs (n + 1) (op == 16) _ _ (omega (arith, number_short (n + 1) a.value h, number_short n b.value k)) (omega (arith, number_short (n + 1) a.value h, number_short n b.value k))
+
+chosen_short : (n : ℕ) (sort : Sort) (c a b : Found) → 1 ≤ n → pairs_value c.value ≤ n → pairs_value a.value ≤ n → pairs_value b.value ≤ n → pairs_value (chosen_as sort c a b) ≤ n
+chosen_short n (ANumber kind) c a b one h k l = omega (arith, number_short n c.value h, converted_short n (kind_of a.type) kind (number_in a.value) (number_short n a.value k), converted_short n (kind_of b.type) kind (number_in b.value) (number_short n b.value l))
+chosen_short n APointer c a b one h k l = omega (arith, number_short n c.value h, wanted_short n a.value one k, wanted_short n b.value one l)
+chosen_short n AWhole c a b one h k l = omega (arith, number_short n c.value h, wanted_short n a.value one k, wanted_short n b.value one l)
+chosen_short n NoValue c a b one h k l = omega (arith, number_short n c.value h, wanted_short n a.value one k, wanted_short n b.value one l)
+
+-- ---- assignments
+
+assigned_short : (n : ℕ) (a b : Found) → 2 ≤ n → pairs_place a.lvalue ≤ n + 1 → pairs_value b.value ≤ n → pairs_value (assigned a b) ≤ n + 1
+assigned_short n a b two h k = written_short n (sort_of a.type) a.place a.lvalue (given a.type b.type b.value) two h (given_short n a.type b.type b.value (omega arith) k)
+
+pub copied_short : (n : ℕ) (structs : List StructType) (type : CType) (l : Lvalue) (to : Place) (b : Found) → 3 ≤ n → pairs_place l ≤ n + 1 → pairs_place b.lvalue ≤ n → pairs_effect (struct_copied structs type l to b) ≤ n + 1
+copied_short n structs type l to b three h k = omega (arith, address_short (n + 1) l (omega arith) h, address_short n b.lvalue (omega arith) k)
+
+assignment_effect_short : (n : ℕ) (sort : Sort) (structs : List StructType) (a b : Found) → 3 ≤ n → pairs_place a.lvalue ≤ n + 1 → pairs_value b.value ≤ n → pairs_place b.lvalue ≤ n → pairs_effect (assignment_effect sort structs a b) ≤ n + 1
+assignment_effect_short n (ANumber kind) structs a b three h k l = effect_short (n + 1) (assigned a b) (assigned_short n a b (omega arith) h k)
+assignment_effect_short n APointer structs a b three h k l = effect_short (n + 1) (assigned a b) (assigned_short n a b (omega arith) h k)
+assignment_effect_short n AWhole structs a b three h k l = copied_short n structs a.type a.lvalue a.place b three h l
+assignment_effect_short n NoValue structs a b three h k l = effect_short (n + 1) (assigned a b) (assigned_short n a b (omega arith) h k)
+
+assign_short : (v u : ℕ) (op : Option ℕ) (around : Around) (a b : Found) (place : Place) (after : Reached) → Short v a → Short u b → Short (max v (u + 1)) (assign_by op around a b place after)
+assign_short v u None around a b place after h k = let n : ℕ = max v (u + 1) + 6 in let e : n + 1 ≡ max v (u + 1) + 7 = omega arith in
+    let x : pairs_value (assigned a b) ≤ max v (u + 1) + 7 = omega (arith, assigned_short n a b (omega arith) (omega (arith, h.lvalue)) (omega (arith, k.value))) in record {
+  value = x;
+  lvalue = pointer_short (max v (u + 1) + 7) (assigned a b) (omega arith) x;
+  effect = omega (arith, assignment_effect_short n (sort_of a.type) around.structs a b (omega arith) (omega (arith, h.lvalue)) (omega (arith, k.value)) (omega (arith, k.lvalue)));
+}
+assign_short v u (Some op) around a b place after h k = let n : ℕ = max v (u + 1) + 6 in
+    no_place_short (max v (u + 1)) a.type (changed around.structs (compound_at op) a (kind_of b.type) (number_in b.value) false) place after
+      (omega (arith, changed_as_short n (kind_of a.type) (sort_of a.type) a.place a.lvalue (compound_at op) (kind_of b.type) (step_in around.structs a.type) (number_in b.value) false (omega arith) (omega (arith, h.lvalue)) (number_short n b.value (omega (arith, k.value)))))
+
+stepped_short : (w : ℕ) (around : Around) (up before : Bool) (a : Found) (place : Place) (after : Reached) → Short w a → Short w (stepped_by around up before a place after)
+stepped_short w around up before a place after h = no_place_short w a.type _ place after
+    (omega (arith, changed_as_short (w + 6) (kind_of a.type) (sort_of a.type) a.place a.lvalue (if up then Plus else Minus) I32 (step_in around.structs a.type) (Word 1) (not before) (omega arith) (omega (arith, h.lvalue)) (omega arith)))
