@@ -10,6 +10,9 @@ pub record Global : Type 0 where
   pub type : CType
   pub defined : Bool
 
+abbrev pub global : CType → (defined : Bool) → Global
+global type defined = record { type = type; defined = defined }
+
 -- one that the source doesn't define has no bytes there
 abbrev pub offset_at : (defined : Bool) → Layout → (free : ℕ) → ℕ
 offset_at true layout free = next_multiple free layout.align

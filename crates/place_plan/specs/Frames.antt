@@ -14,6 +14,9 @@ pub record Variable : Type 0 where
   pub type : CType
   pub taken : Bool
 
+abbrev pub variable : CType → (taken : Bool) → Variable
+variable type taken = record { type = type; taken = taken }
+
 -- how many private values a variable has, if it is private: a number one, a pointer its number and its bounds
 abbrev pub scalar_values : CType → ℕ
 scalar_values Void = 0

@@ -1,10 +1,12 @@
 //! Laws of frames. Each function does nothing of its own, and its contract is the law.
 
-ghost use Rattle.std.specs.Prelude.{◌≡◌, ℕ, ◌+◌, ◌%◌, ◌<◌, ◌≤◌, List, Some, slice_get};
-ghost use Rattle.c_types.specs.Types.{StructType};
+ghost use Rattle.std.specs.Prelude.{◌≡◌, ℕ, ◌+◌, ◌%◌, ◌<◌, ◌≤◌, List, [], ◌∷◌, true, false, Some, slice_get};
+ghost use Rattle.mx_base.specs.declared.numbers.IntKind.TheVariants as IntKind;
+ghost use Rattle.c_types.specs.Types.{Void, Int, Pointer, Array, StructType};
 ghost use Rattle.c_types.specs.Layouts.{layout_of};
 ghost use Rattle.place_plan.specs.declared.plan.Spot.{Spot as SpotOf};
-ghost use Rattle.place_plan.specs.Frames.{Variable, values_of, frame_plan};
+ghost use Rattle.place_plan.specs.Frames.{Variable, variable, values_of, frame_plan};
+ghost use Rattle.place_plan.specs.Data.{global, offsets_from, globals_end, literals_from};
 
 use c_types::sizes_are_multiples;
 
@@ -19,3 +21,12 @@ pub fn variables_stand_apart()
 {
     sizes_are_multiples();
 }
+
+/// Where the variables of a small function stand, of which each is given by its type and by whether `&` is applied to it, and
+/// the globals and texts of a small source.
+pub fn small_plans_stand_so()
+    ensures frame { frame_plan [] (variable (Int IntKind.I8) true ∷ variable (Int IntKind.I32) false ∷ variable (Pointer (Int IntKind.I8)) false ∷ variable (Int IntKind.I64) true ∷ variable (Array (Int IntKind.I16) 3) false ∷ variable (Int IntKind.U8) false ∷ [])
+        ≡ record { size = 32; spots = SpotOf.Frame 0 ∷ SpotOf.Private 0 ∷ SpotOf.Private 1 ∷ SpotOf.Frame 8 ∷ SpotOf.Frame 16 ∷ SpotOf.Private 3 ∷ [] } }
+    ensures data { offsets_from [] 0 (global (Array (Int IntKind.I8) 5) true ∷ global (Int IntKind.I32) false ∷ global (Pointer Void) true ∷ global (Int IntKind.I16) true ∷ []) ≡ 0 ∷ 0 ∷ 8 ∷ 16 ∷ [] }
+    ensures texts { literals_from (globals_end [] 0 (global (Array (Int IntKind.I8) 5) true ∷ [])) (3 ∷ 1 ∷ 6 ∷ []) ≡ 5 ∷ 8 ∷ 9 ∷ [] }
+{}

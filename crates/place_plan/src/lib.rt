@@ -8,5 +8,5 @@ mod plan;
 
 pub use data::{GlobalVariable, place_globals};
 pub use frames::{Local, place_locals};
-pub use laws::variables_stand_apart;
+pub use laws::{small_plans_stand_so, variables_stand_apart};
 pub use plan::{FramePlan, Plan, Spot};
