@@ -1,12 +1,11 @@
 -- Variables of a frame stand at multiples of their alignments, none over another, and within the frame.
-use Rattle.std.proofs.Common.{◌≡◌, ℕ, zero, suc, ◌+◌, ◌-◌, ◌*◌, ◌/◌, ◌%◌, ◌≤◌, ◌<◌, List, [], ◌∷◌, refl, ap, sym, ◌∙◌, subst, arith}
+use Rattle.std.proofs.Common.{◌≡◌, ℕ, zero, suc, ◌+◌, ◌-◌, ◌/◌, ◌%◌, ◌≤◌, ◌<◌, List, [], ◌∷◌, ap, subst, arith}
 use Rattle.std.proofs.Math.Nat.{mul-mod_left}
-use Rattle.std.specs.Prelude.{Option, Some, None, slice_get}
+use Rattle.std.specs.Prelude.{Some, slice_get}
 use Rattle.c_types.specs.declared.layout.Layout.{Layout}
 use Rattle.c_types.specs.Types.{CType, StructType}
 use Rattle.c_types.specs.Layouts.{next_multiple, layout_of}
 use Rattle.place_plan.specs.declared.frames.Free.{Free}
-use Rattle.place_plan.specs.declared.plan.Spot.{Spot}
 use Rattle.place_plan.specs.declared.plan.Spot.TheVariants.{Private, Frame}
 use Rattle.place_plan.specs.Frames.{Variable, values_of, spot_at, free_after, spots_from, free_after_all}
 use Rattle.place_plan.proofs.Ends.{next_enough, after_grows, ends_grow}

@@ -1,4 +1,4 @@
-use Rattle.std.proofs.Common.{◌≡◌, ◌∷◌, false, suc, drop, drop-cons, slice_index_or, ap, arith}
+use Rattle.std.proofs.Common.{false, suc, drop, drop-cons, slice_index_or, ap, arith}
 use Rattle.c_types.specs.Types.{structs_of}
 use Rattle.place_plan.specs.Data.{globals_end}
 use Rattle.place_plan.specs.Globals.{global_of, globals_of}

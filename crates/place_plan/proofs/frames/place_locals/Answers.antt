@@ -1,4 +1,4 @@
-use Rattle.std.proofs.Common.{◌≡◌, ℕ, ◌≤◌, ◌∷◌, ◌∙◌, false, suc, drop, drop-cons, slice_index_or, ap, sym, subst, arith}
+use Rattle.std.proofs.Common.{false, suc, drop, drop-cons, slice_index_or, ap, arith}
 use Rattle.c_types.specs.Types.{structs_of}
 use Rattle.place_plan.specs.declared.frames.Free.{Free}
 use Rattle.place_plan.specs.Frames.{free_after_all, nothing_taken}

@@ -1,4 +1,4 @@
-use Rattle.std.proofs.Common.{◌≡◌, ℕ, ◌*◌, ◌≤◌, ◌++◌, drop}
+use Rattle.std.proofs.Common.{◌≡◌, ◌*◌, ◌≤◌, ◌++◌, drop}
 use Rattle.c_types.specs.Types.{structs_of}
 use Rattle.place_plan.specs.Frames.{spots_from, free_after_all, nothing_taken}
 use Rattle.place_plan.specs.Locals.{variables_of}
