@@ -8,6 +8,7 @@ mod Fitting
 mod FittingBodies
 mod FittingItems
 mod Waiting
+mod WaitingBodies
 mod Inductions
 mod Fresh
 mod Once

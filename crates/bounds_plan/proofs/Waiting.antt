@@ -1,5 +1,6 @@
 -- The core tree of an expression needs at most seven pairs of temporaries more than values wait in it.
-use Rattle.std.proofs.Common.{◌≡◌, ℕ, zero, suc, ◌+◌, ◌≤◌, max, ◌==◌, not, Bool, true, false, refl, List, [], ◌∷◌, map, length, if◌then◌else◌, ap, sym, ◌∙◌, subst, arith}
+use Rattle.std.proofs.lemmas.Bool.{eqb-true}
+use Rattle.std.proofs.Common.{◌≡◌, ℕ, zero, suc, ◌+◌, ◌-◌, ◌≤◌, max, ◌==◌, ◌||◌, not, Bool, true, false, refl, List, [], ◌∷◌, map, length, if◌then◌else◌, ap, sym, ◌∙◌, subst, arith}
 use Rattle.std.specs.Prelude.{Option, None, Some, slice_get}
 use Rattle.mx_base.specs.declared.numbers.IntKind.{IntKind}
 use Rattle.mx_base.specs.declared.numbers.IntKind.TheVariants.{I32, I64, U64}
@@ -236,3 +237,148 @@ assign_short v u (Some op) around a b place after h k = let n : ℕ = max v (u +
 stepped_short : (w : ℕ) (around : Around) (up before : Bool) (a : Found) (place : Place) (after : Reached) → Short w a → Short w (stepped_by around up before a place after)
 stepped_short w around up before a place after h = no_place_short w a.type _ place after
     (omega (arith, changed_as_short (w + 6) (kind_of a.type) (sort_of a.type) a.place a.lvalue (if up then Plus else Minus) I32 (step_in around.structs a.type) (Word 1) (not before) (omega arith) (omega (arith, h.lvalue)) (omega arith)))
+
+-- ---- operators on two operands
+
+logical_at : (n : ℕ) (b16 b17 : Bool) (op : ℕ) → (op == 16) ≡ b16 → (op == 17) ≡ b17 → (b16 || b17) ≡ true → (around : Around) (a b : Found) → pairs_value a.value ≤ n → pairs_value b.value ≤ n → pairs_value (binary op around a b) ≤ n
+unfolding arithmetic_at comparison_at
+logical_at n true b17 op p q l around a b h k = subst (λ o. pairs_value (binary o around a b) ≤ n) (sym (eqb-true op 16 p)) (omega (arith, number_short n a.value h, number_short n b.value k))
+logical_at n false true op p q l around a b h k = subst (λ o. pairs_value (binary o around a b) ≤ n) (sym (eqb-true op 17 q)) (omega (arith, number_short n a.value h, number_short n b.value k))
+logical_at n false false op p q l around a b h k = cc
+
+binary_short : (l : Bool) (op : ℕ) → is_logical op ≡ l → (v u : ℕ) (around : Around) (a b : Found) → Short v a → Short u b → pairs_value (binary op around a b) ≤ (if l then max v u else max v (u + 1)) + 7
+binary_short true op e v u around a b h k = logical_at (max v u + 7) (op == 16) (op == 17) op refl refl e around a b (omega (arith, h.value)) (omega (arith, k.value))
+binary_short false op e v u around a b h k = omega (arith, calculating_short (max v (u + 1) + 6) (arithmetic_at op) (comparison_at op) op around a b (omega arith) (omega (arith, h.value)) (omega (arith, k.value)))
+
+-- ---- calls
+
+pub AllShort : (k w : ℕ) → List Found → Type 0
+AllShort k w [] = Unit {0}
+AllShort k w (f ∷ more) = (pairs_value f.value + k ≤ w + 7) × AllShort (k + 1) w more
+
+more_short : (k w u : ℕ) (all : List Found) → w ≤ u → AllShort k w all → AllShort k u all
+unfolding AllShort
+more_short k w u [] le h = tt
+more_short k w u (f ∷ more) le h = let a = h.0 in (omega arith, more_short (k + 1) w u more le h.1)
+
+found_all_short : (k : ℕ) (all : List ((b : Reading × ℕ) × Brief b)) (around : Around) → Few around → (r : Reached) → AllShort k (waits_from k (map (λ b. b.1) (map (λ y. y.0) all))) (find_all (map (λ b. b.0) (map (λ y. y.0) all)) around r).all
+unfolding AllShort
+found_all_short k [] around few r = tt
+found_all_short k (x ∷ more) around few r = let rest = waits_from (k + 1) (map (λ b. b.1) (map (λ y. y.0) more)) in let h = (x.1 around few r).value in
+    (omega arith, more_short (k + 1) rest (max (x.0.1 + k) rest) _ (omega arith) (found_all_short (k + 1) more around few (x.0.0 around r).after))
+
+with_pairs : (v : Value) (rest : Arguments) → pairs_all (with_argument v rest) ≡ max (pairs_value v) (1 + pairs_all rest)
+with_pairs (Numeric e) rest = refl
+with_pairs (Address p) rest = refl
+
+arguments_short : (types : List CType) (all : List Found) (k w : ℕ) → k + length types ≤ 6 → AllShort k w all → k + pairs_all (arguments_for types all) ≤ w + 7
+unfolding AllShort
+arguments_short [] all k w few h = omega arith
+arguments_short (t ∷ ts) [] k w few h = let rest = arguments_for ts [] in let below : (k + 1) + length ts ≤ 6 = omega arith in
+    omega (arith, with_pairs (given t Void (Numeric (Word 0))) rest, given_short 1 t Void (Numeric (Word 0)) (omega arith) (omega arith), arguments_short ts [] (k + 1) w below tt)
+arguments_short (t ∷ ts) (a ∷ more) k w few h = let rest = arguments_for ts more in let below : (k + 1) + length ts ≤ 6 = omega arith in let n : ℕ = (w + 7) - k in let a0 = h.0 in let le : pairs_value a.value ≤ n = omega arith in
+    omega (arith, with_pairs (given t a.type a.value) rest, given_short n t a.type a.value (omega arith) le, arguments_short ts more (k + 1) w below h.1)
+
+called_as_short : (n : ℕ) (sort : Sort) (symbol : ℕ) (args : Arguments) → 1 ≤ n → pairs_all args ≤ n → pairs_value (called_as sort symbol args) ≤ n
+called_as_short n (ANumber kind) symbol args one h = omega arith
+called_as_short n APointer symbol args one h = omega arith
+called_as_short n AWhole symbol args one h = omega arith
+called_as_short n NoValue symbol args one h = omega arith
+
+function_called_short : (w : ℕ) (around : Around) (type : CType) (number : ℕ) (o : Option Signature) (all : List Found) → ((s : Signature) → o ≡ Some s → length s.parameters ≤ 6) → AllShort 0 w all → pairs_value (function_called around type number o all) ≤ w + 7
+function_called_short w around type number None all few h = omega arith
+function_called_short w around type number (Some s) all few h = called_as_short (w + 7) (sort_of type) (symbol_of around number) (arguments_for s.parameters all) (omega arith)
+    (omega (arith, arguments_short s.parameters all 0 w (omega (arith, few s refl)) h))
+
+argument_short : (n : ℕ) (all : List Found) (k w : ℕ) → k + n ≤ 6 → AllShort k w all → pairs_value (argument_at n all).value + (k + n) ≤ w + 7
+unfolding AllShort
+argument_short n [] k w few h = omega arith
+argument_short zero (a ∷ more) k w few h = let a0 = h.0 in omega arith
+argument_short (suc n) (a ∷ more) k w few h = omega (arith, argument_short n more (k + 1) w (omega arith) h.1)
+
+number_argument_short : (kind : IntKind) (n : ℕ) (all : List Found) (w : ℕ) → n ≤ 6 → AllShort 0 w all → pairs (number_of_argument kind n all) + n ≤ w + 7
+number_argument_short kind n all w few h = let a = argument_short n all 0 w (omega arith) h in let m : ℕ = (w + 7) - n in
+    omega (arith, converted_short m (kind_of (argument_at n all).type) kind (number_in (argument_at n all).value) (number_short m (argument_at n all).value (omega arith)))
+
+pointer_argument_short : (n : ℕ) (all : List Found) (w : ℕ) → n ≤ 6 → AllShort 0 w all → pairs_ptr (pointer_of_argument n all) + n ≤ w + 7
+pointer_argument_short n all w few h = let a = argument_short n all 0 w (omega arith) h in let m : ℕ = (w + 7) - n in
+    omega (arith, wanted_short m (argument_at n all).value (omega arith) (omega arith))
+
+either_value : (n : ℕ) (b : Bool) (x y : Value) → pairs_value x ≤ n → pairs_value y ≤ n → pairs_value (if b then x else y) ≤ n
+either_value n true x y h k = h
+either_value n false x y h k = k
+
+either_pointer : (n : ℕ) (b : Bool) (x y : PointerExpr) → pairs_ptr x ≤ n → pairs_ptr y ≤ n → pairs_ptr (if b then x else y) ≤ n
+either_pointer n true x y h k = h
+either_pointer n false x y h k = k
+
+served_short : (w number : ℕ) (all : List Found) → AllShort 0 w all → pairs_value (served number all) ≤ w + 7
+served_short w number all h = let l = number_argument_short I64 0 all w (omega arith) h in let i = number_argument_short I32 0 all w (omega arith) h in let u = number_argument_short U64 0 all w (omega arith) h in let p = pointer_argument_short 0 all w (omega arith) h in
+    either_value (w + 7) (number == 0) _ _ (omega arith) (either_value (w + 7) (number == 1) _ _ (omega arith) (either_value (w + 7) (number == 2) _ _ (omega arith)
+      (either_value (w + 7) (number == 3) _ _ (omega arith) (either_value (w + 7) (number == 4) _ _ (omega arith) (omega arith)))))
+
+built_in_short : (w number : ℕ) (all : List Found) → AllShort 0 w all → pairs_ptr (built_in number all) ≤ w + 7
+built_in_short w number all h = let p = pointer_argument_short 0 all w (omega arith) h in let q = pointer_argument_short 1 all w (omega arith) h in let m = number_argument_short U64 1 all w (omega arith) h in let n = number_argument_short U64 2 all w (omega arith) h in
+    either_pointer (w + 7) (number == 0) _ _ (omega arith) (either_pointer (w + 7) (number == 1) _ _ (omega arith) (either_pointer (w + 7) (number == 2) _ _ (omega arith)
+      (either_pointer (w + 7) (number == 3) _ _ (omega arith) (either_pointer (w + 7) (number == 4) _ _ (omega arith) (omega arith)))))
+
+called_short : (w : ℕ) (around : Around) → Few around → (type : CType) (m : Meant) (all : List Found) → AllShort 0 w all → pairs_value (called around type m all) ≤ w + 7
+called_short w around few type (Fun number) all h = function_called_short w around type number (slice_get around.signatures number) all (few number) h
+called_short w around few type (Service number) all h = served_short w number all h
+called_short w around few type (Builtin number) all h = built_in_short w number all h
+called_short w around few type (Global number) all h = omega arith
+called_short w around few type (Local number) all h = omega arith
+
+-- ---- expressions: what is found of them beside how many values wait
+abbrev ReadA : Type 0
+ReadA = (Place → Reading) × ℕ
+
+abbrev ReadB : Type 0
+ReadB = Reading × ℕ
+
+abbrev step_both : ExprKind-F ReadA ReadB → ReadA
+step_both y = (step (ef.map-ExprKind ReadA ReadB (Place → Reading) Reading (λ a. a.0) (λ b. b.0) y), expr_waits (ef.map-ExprKind ReadA ReadB ℕ ℕ (λ a. a.1) (λ b. b.1) y))
+
+abbrev struct_both : Expr-F ReadA ReadB → ReadB
+struct_both x = (x.kind.0 x.place, x.kind.1)
+
+abbrev bare : ExprKind-F (ExprA ReadA ReadB step_both struct_both BriefAt Brief) (ExprB ReadA ReadB step_both struct_both BriefAt Brief) → ExprKind-F ReadA ReadB
+bare = bare_exprs ReadA ReadB step_both struct_both BriefAt Brief
+
+step_short : (y : ExprKind-F (ExprA ReadA ReadB step_both struct_both BriefAt Brief) (ExprB ReadA ReadB step_both struct_both BriefAt Brief)) → BriefAt (step_both (bare y))
+step_short (e.Number n kind) place around few r = no_place_short 0 (kind_at around r) (Numeric (Word n)) place _ (omega arith)
+step_short (e.Text bytes) place around few r = record { value = omega arith; lvalue = omega arith; effect = omega arith }
+step_short (e.Var name) place around few r = named_short 0 around (kind_at around r) (bind_at around r) place _
+step_short (e.Unary op a) place around few r = unary_short a.0.1 op _ (a.0.0 around r) place _ (a.1 around few r)
+step_short (e.Binary op a c) place around few r = let x = a.0.0 around r in let y = c.0.0 around x.after in
+    no_place_short (if is_logical op then max a.0.1 c.0.1 else max a.0.1 (c.0.1 + 1)) _ (binary op around x y) place _ (binary_short (is_logical op) op refl a.0.1 c.0.1 around x y (a.1 around few r) (c.1 around few x.after))
+step_short (e.Assign op a c) place around few r = let x = a.0.0 around r in let y = c.0.0 around x.after in assign_short a.0.1 c.0.1 op around x y place _ (a.1 around few r) (c.1 around few x.after)
+step_short (e.StepBy up before a) place around few r = stepped_short a.0.1 around up before (a.0.0 around r) place _ (a.1 around few r)
+step_short (e.Cond c a d) place around few r = let x = c.0.0 around r in let y = a.0.0 around x.after in let z = d.0.0 around y.after in let w : ℕ = max c.0.1 (max a.0.1 d.0.1) in
+    let h = (c.1 around few r).value in let k = (a.1 around few x.after).value in let l = (d.1 around few y.after).value in
+    no_place_short w (kind_at around z.after) (chosen_as (sort_of (kind_at around z.after)) x y z) place _ (chosen_short (w + 7) (sort_of (kind_at around z.after)) x y z (omega arith) (omega arith) (omega arith) (omega arith))
+step_short (e.Call name all) place around few r = let xs = find_all (map (λ b. b.0) (map (λ y. y.0) all)) around r in let w = waits_from 0 (map (λ b. b.1) (map (λ y. y.0) all)) in
+    no_place_short w (kind_at around xs.after) (called around (kind_at around xs.after) (bind_at around xs.after) xs.all) place _ (called_short w around few (kind_at around xs.after) (bind_at around xs.after) xs.all (found_all_short 0 all around few r))
+step_short (e.Index a i) place around few r = let x = a.0.0 around r in let y = i.0.0 around x.after in let w : ℕ = max a.0.1 (i.0.1 + 1) in
+    let h = pointer_short (a.0.1 + 7) x.value (omega arith) (a.1 around few r).value in let k = number_short (i.0.1 + 7) y.value (i.1 around few x.after).value in
+    a_place_short w (kind_at around y.after) (index around (kind_at around y.after) x y) place _ (omega arith)
+step_short (e.Member a name) place around few r = let x = a.0.0 around r in let h = pointer_short (a.0.1 + 7) x.value (omega arith) (a.1 around few r).value in a_place_short a.0.1 (kind_at around x.after) (member around (kind_at around x.after) x name) place _ (omega arith)
+step_short (e.Arrow a name) place around few r = let x = a.0.0 around r in let h = pointer_short (a.0.1 + 7) x.value (omega arith) (a.1 around few r).value in a_place_short a.0.1 (kind_at around x.after) (arrow around (kind_at around x.after) x name) place _ (omega arith)
+step_short (e.Cast base stars a) place around few r = let x = a.0.0 around r in no_place_short a.0.1 (kind_at around x.after) _ place _ (cast_short (a.0.1 + 7) (sort_of (kind_at around x.after)) x.type x.value (omega arith) (a.1 around few r).value)
+step_short (e.SizeOfKind base stars) place around few r = no_place_short 0 _ _ place _ (omega arith)
+step_short (e.SizeOfValue a) place around few r = no_place_short a.0.1 _ _ place _ (omega arith)
+
+abbrev both : Expr → ReadB
+both = fold-Expr ReadA ReadB step_both struct_both
+
+reads_same : (x : Expr) → (both x).0 ≡ expression x
+reads_same x = exprs_fused ReadA ReadB (Place → Reading) Reading step_both struct_both step (λ x. x.kind x.place) (λ a. a.0) (λ b. b.0) (λ y. refl) (λ y. refl) x
+
+waits_same : (x : Expr) → (both x).1 ≡ waits x
+waits_same x = exprs_fused ReadA ReadB ℕ ℕ step_both struct_both expr_waits (λ x. x.kind) (λ a. a.1) (λ b. b.1) (λ y. refl) (λ y. refl) x
+
+both_short : (x : Expr) → Brief (both x)
+both_short x = every_exprs ReadA ReadB step_both struct_both BriefAt Brief step_short (λ y. y.kind.1 y.place) x
+
+pub expressions_short : (x : Expr) → Brief (expression x, waits x)
+expressions_short x = subst (λ read. Brief (read, waits x)) (reads_same x) (subst (λ w. Brief ((both x).0, w)) (waits_same x) (both_short x))

@@ -1,6 +1,7 @@
 -- What the functions that a source is elaborated to must be for their fat steps to do what they mean.
-use Rattle.std.specs.Prelude.{◌≡◌, ℕ, Some, List, [], ◌∷◌, length, slice_get, slice_index_or}
+use Rattle.std.specs.Prelude.{◌≡◌, ℕ, ◌≤◌, Some, List, [], ◌∷◌, length, slice_get, slice_index_or}
 use Rattle.bounds_plan.specs.Compiled.{FitsFunction}
+use Rattle.bounds_plan.specs.Sorts.{pairs_of}
 use Rattle.bounds_plan.specs.ElaborateSource.{SourceLayout, Signature}
 use Rattle.bounds_plan.specs.ElaborateFunctions.{Defined}
 
@@ -12,3 +13,12 @@ TakesParameters takes layout signatures = (number : ℕ) (s : Signature) → sli
 abbrev pub AllFit : (takes : ℕ → ℕ) → List Defined → Type 0
 AllFit takes [] = Unit {0}
 AllFit takes (d ∷ more) = FitsFunction takes d.function × AllFit takes more
+
+-- no function has more than six parameters
+abbrev pub HaveFewParameters : List Signature → Type 0
+HaveFewParameters signatures = (number : ℕ) (s : Signature) → slice_get signatures number ≡ Some s → length s.parameters ≤ 6
+
+-- the body of each function needs at most so many pairs of temporaries
+abbrev pub AllNeed : (pairs : ℕ) → List Defined → Type 0
+AllNeed n [] = Unit {0}
+AllNeed n (d ∷ more) = (pairs_of d.function.body ≤ n) × AllNeed n more
