@@ -9,6 +9,7 @@ mod FittingBodies
 mod FittingItems
 mod Waiting
 mod WaitingBodies
+mod WaitingItems
 mod Inductions
 mod Fresh
 mod Once

@@ -3,12 +3,7 @@ use Rattle.std.proofs.Common.{◌≡◌, ℕ, zero, suc, ◌+◌, ◌≤◌, max
 use Rattle.std.specs.Prelude.{Option, None, Some, slice_get}
 use Rattle.mx_base.specs.declared.numbers.IntKind.{IntKind}
 use Rattle.mx_base.specs.declared.places.Place.{Place}
-use Rattle.mx_base.specs.declared.settings.Flags.{Flags}
 use Rattle.mx_base.specs.Numbers.{extended}
-use Rattle.c_tree.specs.declared.tree.Tree.{Tree}
-use Rattle.c_tree.specs.declared.tree.Item.{Item}
-use Rattle.c_tree.specs.declared.tree.ItemKind.{ItemKind}
-use Rattle.c_tree.specs.declared.tree.ItemKind.TheVariants as k
 use Rattle.c_tree.specs.declared.tree.Decl.{Decl}
 use Rattle.c_tree.specs.declared.tree.Expr.{Expr}
 use Rattle.c_tree.specs.declared.tree.Init.{Init, Init-F, fold-Init}
@@ -32,7 +27,6 @@ use Rattle.bounds_plan.specs.ElaborateInitialisers.{Filled, Filling, part_at, ze
 use Rattle.bounds_plan.specs.ElaborateStatements.{Stated, Stating, in_order, done_by, tested_by, other_by, maybe, local_of, declared, declarations, return_of, returned_by, all_stated, past_counts, stmt_step, statement_by}
 use Rattle.bounds_plan.specs.ElaborateFunctions.{Defined, Gone, Body, body_by, with_body, with_known, after_item, after_items, at_start, gone_by, elaborated, signatures_of}
 use Rattle.bounds_plan.specs.ElaborateWaits.{most, any, waits, maybe_waits, init_waits, waits_init, maybe_waits_init, stmt_waits, waits_stmt, body_waits, item_waits, items_waits}
-use Rattle.bounds_plan.specs.ElaborateLaws.{HaveFewParameters, AllNeed}
 use Rattle.bounds_plan.proofs.Waiting.{pairs_value, pairs_place, number_short, effect_short, given_short, written_short, copied_short, variables_short, Short, Few, expressions_short}
 use Rattle.bounds_plan.proofs.Inductions.{InitA, InitB, bare_inits, every_inits, inits_fused, StmtA, StmtB, bare_stmts, every_stmts, stmts_fused}
 
