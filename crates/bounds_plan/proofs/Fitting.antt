@@ -1,21 +1,21 @@
 -- What a source is elaborated to names private values of the right sort and gives each call as many arguments as its symbol takes.
-use Rattle.std.proofs.Common.{◌≡◌, ℕ, zero, suc, ◌+◌, ◌==◌, not, Bool, true, false, refl, List, [], ◌∷◌, ◌++◌, map, length, if◌then◌else◌, ap, sym, ◌∙◌}
-use Rattle.std.specs.Prelude.{Option, None, Some, slice_get, slice_index_or}
+use Rattle.std.proofs.Common.{◌≡◌, ℕ, zero, suc, ◌==◌, not, Bool, true, false, refl, List, [], ◌∷◌, map, length, if◌then◌else◌, ap, sym, ◌∙◌}
+use Rattle.std.specs.Prelude.{Option, None, Some, slice_get}
 use Rattle.mx_base.specs.declared.numbers.IntKind.{IntKind}
 use Rattle.mx_base.specs.declared.numbers.IntKind.TheVariants.{I32, I64, U64}
 use Rattle.mx_base.specs.declared.places.Place.{Place}
 use Rattle.mx_base.specs.Operators.{Arithmetic, Times, Over, Rest, Plus, Minus, Left, Right, BitAnd, BitXor, BitOr, Comparison, arithmetic_at, comparison_at}
 use Rattle.c_tree.specs.declared.tree.ExprKind.{ExprKind-F}
 use Rattle.c_tree.specs.declared.tree.ExprKind.TheOpen as e
-use Rattle.c_tree.specs.declared.tree.Expr.{Expr, Expr-F}
+use Rattle.c_tree.specs.declared.tree.Expr.{Expr}
 use Rattle.c_types.specs.Types.{CType, Void, StructType}
-use Rattle.bounds_plan.specs.Core.{NumberExpr, Word, Convert, PointerExpr, Null, Arguments, NoMore, WithNumber, WithPointer, Effect}
+use Rattle.bounds_plan.specs.Core.{NumberExpr, Word, Convert, PointerExpr, Arguments}
 use Rattle.bounds_plan.specs.Follows.{count, IsNumber, IsPointer, Fits, FitsPtr, FitsAll, FitsEffect}
-use Rattle.bounds_plan.specs.ElaborateTypes.{Value, Numeric, Address, number_in, pointer_in, Sort, ANumber, APointer, AWhole, NoValue, sort_of, kind_of, size_in, step_in, promoted, common, done_in, keeps, converted, right_operand, wanted_pointer, given_as, given, cast_as}
+use Rattle.bounds_plan.specs.ElaborateTypes.{Value, Numeric, Address, number_in, pointer_in, Sort, ANumber, APointer, AWhole, NoValue, sort_of, kind_of, step_in, promoted, common, done_in, keeps, converted, right_operand, wanted_pointer, given_as, given, cast_as}
 use Rattle.bounds_plan.specs.ElaborateSource.{Meant, Global, Local, Fun, Service, Builtin, Reached, Signature, Around, kind_at, bind_at}
-use Rattle.bounds_plan.specs.ElaboratePlaces.{Lvalue, NumberVariable, PointerVariable, InMemory, address_in, loaded_as, read_as, stored_as, written_as, takes_away, changed_at, changed_as, variable_of}
-use Rattle.bounds_plan.specs.ElaborateExpressions.{Found, Reading, effect_of, no_place, a_place, symbol_of, named, literal, promoted_number, negative, inverse, is_zero, unary, calculated, distance, arithmetic, compared, binary_as, binary, chosen_as, assigned, struct_copied, assignment_effect, assignment, compound_at, changed, compound, assign_by, stepped_by, find_all, with_argument, arguments_for, called_as, nothing_found, argument_at, number_of_argument, pointer_of_argument, served, built_in, function_called, called, member, arrow, index, step, expression}
-use Rattle.bounds_plan.proofs.Inductions.{ExprA, ExprB, bare_exprs, bare_exprs_struct, every_exprs}
+use Rattle.bounds_plan.specs.ElaboratePlaces.{Lvalue, NumberVariable, PointerVariable, InMemory, address_in, loaded_as, read_as, stored_as, written_as, changed_at, changed_as, variable_of}
+use Rattle.bounds_plan.specs.ElaborateExpressions.{Found, Reading, effect_of, no_place, a_place, symbol_of, named, promoted_number, negative, inverse, is_zero, unary, calculated, arithmetic, compared, binary_as, binary, chosen_as, assigned, struct_copied, assignment_effect, compound_at, changed, assign_by, stepped_by, find_all, with_argument, arguments_for, called_as, argument_at, number_of_argument, pointer_of_argument, served, built_in, function_called, called, member, arrow, index, step, expression}
+use Rattle.bounds_plan.proofs.Inductions.{ExprA, ExprB, bare_exprs, every_exprs}
 
 module _ (private : ℕ) (is_bounds : ℕ → Bool) (takes : ℕ → ℕ) where
   abbrev pub FitsValue : Value → Type 0

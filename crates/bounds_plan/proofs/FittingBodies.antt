@@ -1,12 +1,11 @@
 -- The same of initialisers, statements and bodies.
-use Rattle.std.proofs.Common.{◌≡◌, ℕ, zero, suc, ◌+◌, Bool, true, false, refl, List, [], ◌∷◌, ◌++◌, map}
+use Rattle.std.proofs.Common.{ℕ, zero, suc, ◌+◌, Bool, List, [], ◌∷◌, ◌++◌, map}
 use Rattle.std.specs.Prelude.{Option, None, Some}
 use Rattle.mx_base.specs.declared.numbers.IntKind.{IntKind}
 use Rattle.mx_base.specs.declared.places.Place.{Place}
 use Rattle.mx_base.specs.Numbers.{extended}
-use Rattle.c_tree.specs.declared.tree.Decl.{Decl}
 use Rattle.c_tree.specs.declared.tree.Expr.{Expr}
-use Rattle.c_tree.specs.declared.tree.Init.{Init, Init-F}
+use Rattle.c_tree.specs.declared.tree.Init.{Init}
 use Rattle.c_tree.specs.declared.tree.InitKind.{InitKind-F}
 use Rattle.c_tree.specs.declared.tree.InitKind.TheOpen as i
 use Rattle.c_tree.specs.declared.tree.Stmt.{Stmt}
@@ -14,17 +13,17 @@ use Rattle.c_tree.specs.declared.tree.StmtKind.{StmtKind-F}
 use Rattle.c_tree.specs.declared.tree.StmtKind.TheOpen as s
 use Rattle.c_types.specs.Types.{CType, Void, Int, Pointer, Array, Struct, StructType, members_of}
 use Rattle.c_types.specs.Layouts.{layout_of, offsets_from}
-use Rattle.bounds_plan.specs.Core.{Word, Null, Scalar, Effect, Statement}
+use Rattle.bounds_plan.specs.Core.{Word, Null, Scalar, Effect}
 use Rattle.bounds_plan.specs.Follows.{Fits, FitsEffect, FitsStatement}
 use Rattle.bounds_plan.specs.ElaborateScalars.{scalars_of, scalar_at}
 use Rattle.bounds_plan.specs.ElaborateTypes.{Value, Numeric, Address, number_in, Sort, ANumber, APointer, sort_of, kind_of, size_in, given}
 use Rattle.bounds_plan.specs.ElaborateSource.{Reached, Around, bind_at, local_number}
 use Rattle.bounds_plan.specs.ElaboratePlaces.{Lvalue, NumberVariable, PointerVariable, InMemory, written_as}
-use Rattle.bounds_plan.specs.ElaborateExpressions.{Found, Reading, effect_of, expression}
-use Rattle.bounds_plan.specs.ElaborateInitialisers.{Filled, Filling, part_at, zero_as, zero_written, zeros, member_zeros, text_filled, scalar_filled, bytes_of, one_filled, elements_filled, members_filled, many_filled, init_step, initialiser}
-use Rattle.bounds_plan.specs.ElaborateStatements.{Stated, Stating, in_order, done_by, tested_by, other_by, maybe, local_of, declared, return_of, returned_by, all_stated, past_counts, stmt_step, statement_by}
-use Rattle.bounds_plan.proofs.Fitting.{FitsValue, FitsPlace, FitsFound, Ready, Good, effect_fits, given_fits, written_fits, copied_fits, expressions_fit}
-use Rattle.bounds_plan.proofs.Inductions.{InitA, InitB, bare_inits, bare_inits_struct, every_inits, StmtA, StmtB, bare_stmts, bare_stmts_struct, every_stmts}
+use Rattle.bounds_plan.specs.ElaborateExpressions.{Found, effect_of, expression}
+use Rattle.bounds_plan.specs.ElaborateInitialisers.{Filling, part_at, zero_as, zero_written, zeros, member_zeros, text_filled, scalar_filled, bytes_of, one_filled, elements_filled, members_filled, many_filled, init_step, initialiser}
+use Rattle.bounds_plan.specs.ElaborateStatements.{Stating, in_order, done_by, tested_by, maybe, local_of, declared, return_of, returned_by, all_stated, past_counts, stmt_step, statement_by}
+use Rattle.bounds_plan.proofs.Fitting.{FitsValue, FitsPlace, FitsFound, Ready, effect_fits, given_fits, written_fits, copied_fits, expressions_fit}
+use Rattle.bounds_plan.proofs.Inductions.{InitA, InitB, bare_inits, every_inits, StmtA, StmtB, bare_stmts, every_stmts}
 
 module _ (private : ℕ) (is_bounds : ℕ → Bool) (takes : ℕ → ℕ) where
   pub AllFitEffects : List Effect → Type 0

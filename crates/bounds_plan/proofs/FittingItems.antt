@@ -1,26 +1,23 @@
 -- The same of functions and of a whole source.
-use Rattle.std.proofs.Common.{◌≡◌, ℕ, zero, suc, ◌+◌, ◌<◌, Bool, true, false, refl, List, [], ◌∷◌, ◌++◌, map, length, if◌then◌else◌, nat_lt, ap, sym, ◌∙◌, subst, arith, append_assoc, length-append}
+use Rattle.std.proofs.Common.{◌≡◌, ℕ, zero, suc, ◌+◌, ◌<◌, Bool, true, false, refl, List, [], ◌∷◌, ◌++◌, length, if◌then◌else◌, nat_lt, sym, ◌∙◌, subst, arith, append_assoc, length-append}
 use Rattle.std.specs.Prelude.{Option, None, Some, slice_get, slice_index_or}
 use Rattle.mx_base.specs.declared.settings.Flags.{Flags}
 use Rattle.c_tree.specs.declared.tree.Tree.{Tree}
 use Rattle.c_tree.specs.declared.tree.Item.{Item}
 use Rattle.c_tree.specs.declared.tree.ItemKind.{ItemKind}
 use Rattle.c_tree.specs.declared.tree.ItemKind.TheVariants as k
-use Rattle.c_tree.specs.declared.tree.Decl.{Decl}
 use Rattle.c_tree.specs.declared.tree.Stmt.{Stmt}
 use Rattle.c_types.specs.Types.{CType, StructType}
-use Rattle.bounds_plan.specs.Functions.{FunctionOfC}
-use Rattle.bounds_plan.specs.Follows.{IsNumber, IsPointer, FitsStatement}
-use Rattle.bounds_plan.specs.Compiled.{sorts_of, ParametersStand, FitsFunction}
+use Rattle.bounds_plan.specs.Compiled.{ParametersStand, FitsFunction}
 use Rattle.bounds_plan.specs.ElaborateTypes.{Sort, ANumber, APointer, AWhole, NoValue, sort_of}
-use Rattle.bounds_plan.specs.ElaborateSource.{Stand, Private, Frame, Meanings, SourceLayout, Reached, Signature, Around}
+use Rattle.bounds_plan.specs.ElaborateSource.{Stand, Private, Frame, Meanings, SourceLayout, Signature, Around}
 use Rattle.bounds_plan.specs.ElaboratePlaces.{private_values_of, private_values, variable_at, variable_of}
 use Rattle.bounds_plan.specs.ElaborateExpressions.{expression}
 use Rattle.bounds_plan.specs.ElaborateInitialisers.{initialiser}
 use Rattle.bounds_plan.specs.ElaborateStatements.{declarations, statement_by, maybe}
-use Rattle.bounds_plan.specs.ElaborateFunctions.{Defined, Gone, Body, body_by, parameter_at, parameters_from, with_signature, with_body, with_known, after_item, after_items, at_start, gone_by, gone_through, elaborated, signatures_of}
+use Rattle.bounds_plan.specs.ElaborateFunctions.{Defined, Gone, Body, body_by, parameter_at, parameters_from, with_body, with_known, after_item, after_items, at_start, gone_by, elaborated, signatures_of}
 use Rattle.bounds_plan.specs.ElaborateLaws.{TakesParameters, AllFit}
-use Rattle.bounds_plan.proofs.Fitting.{FitsPlace, Ready}
+use Rattle.bounds_plan.proofs.Fitting.{FitsPlace}
 use Rattle.bounds_plan.proofs.FittingBodies.{statements_fit}
 
 -- ---- private values
@@ -61,7 +58,7 @@ module _ (takes : ℕ → ℕ) where
   variable_fits structs (t ∷ ts) (s ∷ ss) pre (suc n) = let vs = private_values_of (sort_of t) s in
       subst (λ w. FitsPlace (length w) (bounds_in w) takes (variable_of structs ts ss (length pre + length vs) n)) (append_assoc pre vs (private_values ts ss))
       (subst (λ x. FitsPlace (length ((pre ++ vs) ++ private_values ts ss)) (bounds_in ((pre ++ vs) ++ private_values ts ss)) takes (variable_of structs ts ss x n)) (length-append pre vs)
-        (variable_fits structs ts ss (pre ++ vs) n))
+      (variable_fits structs ts ss (pre ++ vs) n))
 
   -- ---- parameters
 

@@ -1,6 +1,6 @@
 -- A fact of what folds over trees give, by induction: a step that makes the fact of a node from the facts of its children.
 use Rattle.std.proofs.Common.{◌≡◌, ap, sym, ◌∙◌, subst, refl, List, [], ◌∷◌, map}
-use Rattle.std.specs.Prelude.{Option, None, Some}
+use Rattle.std.specs.Prelude.{None, Some}
 use Rattle.c_tree.specs.declared.tree.Expr.{Expr, Expr-F, fold-Expr, fold-roll-Expr, map_is-Expr}
 use Rattle.c_tree.specs.declared.tree.ExprKind.{ExprKind, ExprKind-F, fold-ExprKind, fold-roll-ExprKind, map_is-ExprKind, roll-ExprKind}
 use Rattle.c_tree.specs.declared.tree.ExprKind.TheFolds as ef

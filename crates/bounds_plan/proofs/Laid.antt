@@ -6,15 +6,15 @@ use Rattle.mx_base.specs.declared.places.Place.{Place}
 use Rattle.mx_base.specs.declared.settings.Flags.{Flags}
 use Rattle.c_tree.specs.declared.tree.Tree.{Tree}
 use Rattle.c_tree.specs.declared.tree.Expr.{Expr, Expr-F, fold-Expr, fold-roll-Expr, map_is-Expr}
-use Rattle.c_tree.specs.declared.tree.ExprKind.{ExprKind, ExprKind-F, fold-ExprKind, fold-roll-ExprKind, map_is-ExprKind, roll-ExprKind}
+use Rattle.c_tree.specs.declared.tree.ExprKind.{ExprKind-F, fold-ExprKind, fold-roll-ExprKind, map_is-ExprKind, roll-ExprKind}
 use Rattle.c_tree.specs.declared.tree.ExprKind.TheFolds as ef
 use Rattle.c_tree.specs.declared.tree.ExprKind.TheBlock as eb
 use Rattle.c_tree.specs.declared.tree.Init.{Init, Init-F, fold-Init, fold-roll-Init, map_is-Init}
-use Rattle.c_tree.specs.declared.tree.InitKind.{InitKind, InitKind-F, fold-InitKind, fold-roll-InitKind, map_is-InitKind, roll-InitKind}
+use Rattle.c_tree.specs.declared.tree.InitKind.{InitKind-F, fold-InitKind, fold-roll-InitKind, map_is-InitKind, roll-InitKind}
 use Rattle.c_tree.specs.declared.tree.InitKind.TheFolds as nf
 use Rattle.c_tree.specs.declared.tree.InitKind.TheBlock as nb
 use Rattle.c_tree.specs.declared.tree.Stmt.{Stmt, Stmt-F, fold-Stmt, fold-roll-Stmt, map_is-Stmt}
-use Rattle.c_tree.specs.declared.tree.StmtKind.{StmtKind, StmtKind-F, fold-StmtKind, fold-roll-StmtKind, map_is-StmtKind, roll-StmtKind}
+use Rattle.c_tree.specs.declared.tree.StmtKind.{StmtKind-F, fold-StmtKind, fold-roll-StmtKind, map_is-StmtKind, roll-StmtKind}
 use Rattle.c_tree.specs.declared.tree.StmtKind.TheFolds as sf
 use Rattle.c_tree.specs.declared.tree.StmtKind.TheBlock as sb
 use Rattle.bounds_plan.specs.ElaborateSource.{Meanings, SourceLayout}

@@ -1,6 +1,6 @@
 -- The core tree of an expression needs at most seven pairs of temporaries more than values wait in it.
 use Rattle.std.proofs.lemmas.Bool.{eqb-true}
-use Rattle.std.proofs.Common.{◌≡◌, ℕ, zero, suc, ◌+◌, ◌-◌, ◌≤◌, max, ◌==◌, ◌||◌, not, Bool, true, false, refl, List, [], ◌∷◌, map, length, if◌then◌else◌, ap, sym, ◌∙◌, subst, arith}
+use Rattle.std.proofs.Common.{◌≡◌, ℕ, zero, suc, ◌+◌, ◌-◌, ◌≤◌, max, ◌==◌, ◌||◌, not, Bool, true, false, refl, List, [], ◌∷◌, map, length, if◌then◌else◌, sym, subst, arith}
 use Rattle.std.specs.Prelude.{Option, None, Some, slice_get}
 use Rattle.mx_base.specs.declared.numbers.IntKind.{IntKind}
 use Rattle.mx_base.specs.declared.numbers.IntKind.TheVariants.{I32, I64, U64}
@@ -11,12 +11,12 @@ use Rattle.c_tree.specs.declared.tree.ExprKind.TheFolds as ef
 use Rattle.c_tree.specs.declared.tree.ExprKind.TheOpen as e
 use Rattle.c_tree.specs.declared.tree.Expr.{Expr, Expr-F, fold-Expr}
 use Rattle.c_types.specs.Types.{CType, Void, StructType}
-use Rattle.bounds_plan.specs.Core.{NumberExpr, Word, Convert, PointerExpr, Null, Arguments, NoMore, WithNumber, WithPointer, Effect}
+use Rattle.bounds_plan.specs.Core.{NumberExpr, Word, Convert, PointerExpr, Arguments}
 use Rattle.bounds_plan.specs.Sorts.{pairs, pairs_ptr, pairs_all, pairs_effect}
 use Rattle.bounds_plan.specs.ElaborateTypes.{Value, Numeric, Address, number_in, pointer_in, Sort, ANumber, APointer, AWhole, NoValue, sort_of, kind_of, step_in, promoted, common, done_in, keeps, converted, right_operand, wanted_pointer, given_as, given, cast_as}
 use Rattle.bounds_plan.specs.ElaborateSource.{Meant, Global, Local, Fun, Service, Builtin, Stand, Private, Frame, Reached, Signature, Around, kind_at, bind_at}
-use Rattle.bounds_plan.specs.ElaboratePlaces.{Lvalue, NumberVariable, PointerVariable, InMemory, address_in, loaded_as, read_as, stored_as, written_as, takes_away, changed_at, changed_as, variable_at, variable_of, private_values_of}
-use Rattle.bounds_plan.specs.ElaborateExpressions.{Found, Reading, effect_of, no_place, a_place, symbol_of, named, promoted_number, negative, inverse, is_zero, unary, calculated, arithmetic, compared, binary_as, binary, chosen_as, assigned, struct_copied, assignment_effect, compound_at, changed, assign_by, stepped_by, find_all, with_argument, arguments_for, called_as, argument_at, number_of_argument, pointer_of_argument, served, built_in, function_called, called, member, arrow, index, step, expression}
+use Rattle.bounds_plan.specs.ElaboratePlaces.{Lvalue, NumberVariable, PointerVariable, InMemory, address_in, loaded_as, read_as, stored_as, written_as, changed_at, changed_as, variable_at, variable_of, private_values_of}
+use Rattle.bounds_plan.specs.ElaborateExpressions.{Found, Reading, effect_of, no_place, a_place, symbol_of, named, promoted_number, negative, inverse, is_zero, unary, arithmetic, compared, binary_as, binary, chosen_as, assigned, struct_copied, assignment_effect, compound_at, changed, assign_by, stepped_by, find_all, with_argument, arguments_for, called_as, argument_at, number_of_argument, pointer_of_argument, served, built_in, function_called, called, member, arrow, index, step, expression}
 use Rattle.bounds_plan.specs.ElaborateWaits.{waits_from, is_logical, expr_waits, waits}
 use Rattle.bounds_plan.proofs.Inductions.{ExprA, ExprB, bare_exprs, every_exprs, exprs_fused}
 
@@ -226,13 +226,13 @@ assignment_effect_short n NoValue structs a b three h k l = effect_short (n + 1)
 assign_short : (v u : ℕ) (op : Option ℕ) (around : Around) (a b : Found) (place : Place) (after : Reached) → Short v a → Short u b → Short (max v (u + 1)) (assign_by op around a b place after)
 assign_short v u None around a b place after h k = let n : ℕ = max v (u + 1) + 6 in let e : n + 1 ≡ max v (u + 1) + 7 = omega arith in
     let x : pairs_value (assigned a b) ≤ max v (u + 1) + 7 = omega (arith, assigned_short n a b (omega arith) (omega (arith, h.lvalue)) (omega (arith, k.value))) in record {
-  value = x;
-  lvalue = pointer_short (max v (u + 1) + 7) (assigned a b) (omega arith) x;
-  effect = omega (arith, assignment_effect_short n (sort_of a.type) around.structs a b (omega arith) (omega (arith, h.lvalue)) (omega (arith, k.value)) (omega (arith, k.lvalue)));
-}
+      value = x;
+      lvalue = pointer_short (max v (u + 1) + 7) (assigned a b) (omega arith) x;
+      effect = omega (arith, assignment_effect_short n (sort_of a.type) around.structs a b (omega arith) (omega (arith, h.lvalue)) (omega (arith, k.value)) (omega (arith, k.lvalue)));
+    }
 assign_short v u (Some op) around a b place after h k = let n : ℕ = max v (u + 1) + 6 in
     no_place_short (max v (u + 1)) a.type (changed around.structs (compound_at op) a (kind_of b.type) (number_in b.value) false) place after
-      (omega (arith, changed_as_short n (kind_of a.type) (sort_of a.type) a.place a.lvalue (compound_at op) (kind_of b.type) (step_in around.structs a.type) (number_in b.value) false (omega arith) (omega (arith, h.lvalue)) (number_short n b.value (omega (arith, k.value)))))
+    (omega (arith, changed_as_short n (kind_of a.type) (sort_of a.type) a.place a.lvalue (compound_at op) (kind_of b.type) (step_in around.structs a.type) (number_in b.value) false (omega arith) (omega (arith, h.lvalue)) (number_short n b.value (omega (arith, k.value)))))
 
 stepped_short : (w : ℕ) (around : Around) (up before : Bool) (a : Found) (place : Place) (after : Reached) → Short w a → Short w (stepped_by around up before a place after)
 stepped_short w around up before a place after h = no_place_short w a.type _ place after
@@ -315,12 +315,12 @@ either_pointer n false x y h k = k
 served_short : (w number : ℕ) (all : List Found) → AllShort 0 w all → pairs_value (served number all) ≤ w + 7
 served_short w number all h = let l = number_argument_short I64 0 all w (omega arith) h in let i = number_argument_short I32 0 all w (omega arith) h in let u = number_argument_short U64 0 all w (omega arith) h in let p = pointer_argument_short 0 all w (omega arith) h in
     either_value (w + 7) (number == 0) _ _ (omega arith) (either_value (w + 7) (number == 1) _ _ (omega arith) (either_value (w + 7) (number == 2) _ _ (omega arith)
-      (either_value (w + 7) (number == 3) _ _ (omega arith) (either_value (w + 7) (number == 4) _ _ (omega arith) (omega arith)))))
+    (either_value (w + 7) (number == 3) _ _ (omega arith) (either_value (w + 7) (number == 4) _ _ (omega arith) (omega arith)))))
 
 built_in_short : (w number : ℕ) (all : List Found) → AllShort 0 w all → pairs_ptr (built_in number all) ≤ w + 7
 built_in_short w number all h = let p = pointer_argument_short 0 all w (omega arith) h in let q = pointer_argument_short 1 all w (omega arith) h in let m = number_argument_short U64 1 all w (omega arith) h in let n = number_argument_short U64 2 all w (omega arith) h in
     either_pointer (w + 7) (number == 0) _ _ (omega arith) (either_pointer (w + 7) (number == 1) _ _ (omega arith) (either_pointer (w + 7) (number == 2) _ _ (omega arith)
-      (either_pointer (w + 7) (number == 3) _ _ (omega arith) (either_pointer (w + 7) (number == 4) _ _ (omega arith) (omega arith)))))
+    (either_pointer (w + 7) (number == 3) _ _ (omega arith) (either_pointer (w + 7) (number == 4) _ _ (omega arith) (omega arith)))))
 
 called_short : (w : ℕ) (around : Around) → Few around → (type : CType) (m : Meant) (all : List Found) → AllShort 0 w all → pairs_value (called around type m all) ≤ w + 7
 called_short w around few type (Fun number) all h = function_called_short w around type number (slice_get around.signatures number) all (few number) h

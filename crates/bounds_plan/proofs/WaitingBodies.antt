@@ -1,10 +1,9 @@
 -- The same of initialisers, statements and bodies, which need at most eight pairs of temporaries more than values wait in them.
-use Rattle.std.proofs.Common.{◌≡◌, ℕ, zero, suc, ◌+◌, ◌≤◌, max, Bool, true, false, nat_lt, refl, List, [], ◌∷◌, ◌++◌, map, length, if◌then◌else◌, sym, subst, arith}
-use Rattle.std.specs.Prelude.{Option, None, Some, slice_get}
+use Rattle.std.proofs.Common.{◌≡◌, ℕ, zero, suc, ◌+◌, ◌≤◌, refl, List, [], ◌∷◌, ◌++◌, map, subst, arith}
+use Rattle.std.specs.Prelude.{Option, None, Some}
 use Rattle.mx_base.specs.declared.numbers.IntKind.{IntKind}
 use Rattle.mx_base.specs.declared.places.Place.{Place}
 use Rattle.mx_base.specs.Numbers.{extended}
-use Rattle.c_tree.specs.declared.tree.Decl.{Decl}
 use Rattle.c_tree.specs.declared.tree.Expr.{Expr}
 use Rattle.c_tree.specs.declared.tree.Init.{Init, Init-F, fold-Init}
 use Rattle.c_tree.specs.declared.tree.InitKind.{InitKind-F}
@@ -16,17 +15,16 @@ use Rattle.c_tree.specs.declared.tree.StmtKind.TheFolds as sf
 use Rattle.c_tree.specs.declared.tree.StmtKind.TheOpen as s
 use Rattle.c_types.specs.Types.{CType, Void, Int, Pointer, Array, Struct, StructType, members_of}
 use Rattle.c_types.specs.Layouts.{layout_of, offsets_from}
-use Rattle.bounds_plan.specs.Core.{Word, Null, Scalar, Effect, Statement}
+use Rattle.bounds_plan.specs.Core.{Word, Null, Scalar, Effect}
 use Rattle.bounds_plan.specs.Sorts.{pairs, pairs_effect, pairs_of}
 use Rattle.bounds_plan.specs.ElaborateScalars.{scalars_of, scalar_at}
 use Rattle.bounds_plan.specs.ElaborateTypes.{Value, Numeric, Address, number_in, Sort, ANumber, APointer, sort_of, kind_of, size_in, given}
-use Rattle.bounds_plan.specs.ElaborateSource.{Meanings, SourceLayout, Reached, Signature, Around, bind_at, local_number}
+use Rattle.bounds_plan.specs.ElaborateSource.{Reached, Around, bind_at, local_number}
 use Rattle.bounds_plan.specs.ElaboratePlaces.{Lvalue, NumberVariable, PointerVariable, InMemory, written_as}
-use Rattle.bounds_plan.specs.ElaborateExpressions.{Found, Reading, effect_of, expression}
-use Rattle.bounds_plan.specs.ElaborateInitialisers.{Filled, Filling, part_at, zero_as, zero_written, zeros, member_zeros, text_filled, scalar_filled, bytes_of, one_filled, elements_filled, members_filled, many_filled, init_step, initialiser}
-use Rattle.bounds_plan.specs.ElaborateStatements.{Stated, Stating, in_order, done_by, tested_by, other_by, maybe, local_of, declared, declarations, return_of, returned_by, all_stated, past_counts, stmt_step, statement_by}
-use Rattle.bounds_plan.specs.ElaborateFunctions.{Defined, Gone, Body, body_by, with_body, with_known, after_item, after_items, at_start, gone_by, elaborated, signatures_of}
-use Rattle.bounds_plan.specs.ElaborateWaits.{most, any, waits, maybe_waits, init_waits, waits_init, maybe_waits_init, stmt_waits, waits_stmt, body_waits, item_waits, items_waits}
+use Rattle.bounds_plan.specs.ElaborateExpressions.{Found, effect_of, expression}
+use Rattle.bounds_plan.specs.ElaborateInitialisers.{Filling, part_at, zero_as, zero_written, zeros, member_zeros, text_filled, scalar_filled, bytes_of, one_filled, elements_filled, members_filled, many_filled, init_step, initialiser}
+use Rattle.bounds_plan.specs.ElaborateStatements.{Stating, in_order, done_by, tested_by, maybe, local_of, declared, return_of, returned_by, all_stated, past_counts, stmt_step, statement_by}
+use Rattle.bounds_plan.specs.ElaborateWaits.{most, waits, maybe_waits, init_waits, waits_init, maybe_waits_init, stmt_waits, waits_stmt}
 use Rattle.bounds_plan.proofs.Waiting.{pairs_value, pairs_place, number_short, effect_short, given_short, written_short, copied_short, variables_short, Short, Few, expressions_short}
 use Rattle.bounds_plan.proofs.Inductions.{InitA, InitB, bare_inits, every_inits, inits_fused, StmtA, StmtB, bare_stmts, every_stmts, stmts_fused}
 

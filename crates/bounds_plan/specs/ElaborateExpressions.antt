@@ -9,7 +9,7 @@ use Rattle.c_tree.specs.declared.tree.Base.TheVariants as b
 use Rattle.c_tree.specs.declared.tree.Expr.{Expr, fold-Expr}
 use Rattle.c_tree.specs.declared.tree.ExprKind.{ExprKind-F}
 use Rattle.c_tree.specs.declared.tree.ExprKind.TheOpen as e
-use Rattle.c_types.specs.Types.{CType, Void, Int, Pointer, Array, Struct, StructType}
+use Rattle.c_types.specs.Types.{CType, Void, Int, Pointer, Struct, StructType}
 use Rattle.bounds_plan.specs.Core.{NumberExpr, Word, Operate, Compare, And, Or, Choose, Call, Serve, Ask, AsNumber, PointerExpr, Function, Object, ChoosePtr, CallPtr, Alloc, SetBounds, NarrowBounds, CopyBounds, InitBounds, BoundOf, Arguments, NoMore, WithNumber, WithPointer, Effect, OfNumber, OfPointer, CopyStruct}
 use Rattle.bounds_plan.specs.ElaborateScalars.{scalars_of}
 use Rattle.bounds_plan.specs.ElaborateTypes.{Value, Numeric, Address, number_in, pointer_in, Sort, ANumber, APointer, AWhole, NoValue, sort_of, kind_of, target_of, size_in, step_in, promoted, common, done_in, converted, right_operand, wanted_pointer, given, cast_to}

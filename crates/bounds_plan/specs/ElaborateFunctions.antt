@@ -1,5 +1,5 @@
 -- What the functions of a source are in the core tree. The source is gone through from its front on, and what it has declared so far is known.
-use Rattle.std.specs.Prelude.{ℕ, ◌+◌, nat_lt, Bool, true, false, if◌then◌else◌, Option, None, Some, List, [], ◌∷◌, ◌++◌, map, length, take, drop, slice_index_or}
+use Rattle.std.specs.Prelude.{ℕ, ◌+◌, nat_lt, Bool, if◌then◌else◌, Option, None, Some, List, [], ◌∷◌, ◌++◌, map, length, take, drop, slice_index_or}
 use Rattle.mx_base.specs.declared.numbers.IntKind.{IntKind}
 use Rattle.mx_base.specs.declared.settings.Flags.{Flags}
 use Rattle.c_tree.specs.declared.tree.Tree.{Tree}
@@ -10,7 +10,7 @@ use Rattle.c_tree.specs.declared.tree.Decl.{Decl}
 use Rattle.c_tree.specs.declared.tree.Expr.{Expr}
 use Rattle.c_tree.specs.declared.tree.Init.{Init}
 use Rattle.c_tree.specs.declared.tree.Stmt.{Stmt}
-use Rattle.c_types.specs.Types.{CType, Void, Int, Pointer, Array, Struct, StructType}
+use Rattle.c_types.specs.Types.{CType, Void, StructType}
 use Rattle.bounds_plan.specs.Core.{Null, Statement}
 use Rattle.bounds_plan.specs.Functions.{Parameter, Private as PrivateParameter, Framed, Framed_variable, FunctionOfC}
 use Rattle.bounds_plan.specs.ElaborateTypes.{Sort, ANumber, APointer, AWhole, NoValue, sort_of, size_in}

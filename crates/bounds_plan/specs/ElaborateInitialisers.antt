@@ -13,7 +13,7 @@ use Rattle.c_types.specs.Types.{CType, Void, Int, Pointer, Array, Struct, Struct
 use Rattle.c_types.specs.Layouts.{layout_of, offsets_from}
 use Rattle.bounds_plan.specs.Core.{Word, Null, Member, Scalar, Effect}
 use Rattle.bounds_plan.specs.ElaborateScalars.{scalars_of, scalar_at}
-use Rattle.bounds_plan.specs.ElaborateTypes.{Value, Numeric, Address, ANumber, APointer, sort_of, kind_of, size_in, given}
+use Rattle.bounds_plan.specs.ElaborateTypes.{Numeric, Address, ANumber, APointer, sort_of, kind_of, size_in, given}
 use Rattle.bounds_plan.specs.ElaborateSource.{Reached, Around}
 use Rattle.bounds_plan.specs.ElaboratePlaces.{Lvalue, NumberVariable, PointerVariable, InMemory, written_as}
 use Rattle.bounds_plan.specs.ElaborateExpressions.{Found, Reading, effect_of, struct_copied, without_literals}

@@ -8,8 +8,8 @@ use Rattle.mx_base.specs.declared.settings.Flags.{Flags}
 use Rattle.mx_base.specs.Operators.{Arithmetic, Times, Over, Rest, Plus, Minus, Left, Right, BitAnd, BitXor, BitOr}
 use Rattle.narrowing.specs.Member.{rule_of}
 use Rattle.c_types.specs.Types.{CType, Void, Int, Pointer, Array, Struct, StructType, members_of}
-use Rattle.c_types.specs.Layouts.{no_layout, layout_of, offsets_from}
-use Rattle.bounds_plan.specs.Core.{NumberExpr, Variable, Assign, Load, Store, Update, UpdateAt, PointerExpr, Null, Object, InFrame, VariablePtr, AssignPtr, Member, Element, ElementAfter, LoadPtr, StorePtr, Advance, AdvanceAt}
+use Rattle.c_types.specs.Layouts.{layout_of, offsets_from}
+use Rattle.bounds_plan.specs.Core.{NumberExpr, Variable, Assign, Load, Store, Update, UpdateAt, PointerExpr, Null, InFrame, VariablePtr, AssignPtr, Member, Element, ElementAfter, LoadPtr, StorePtr, Advance, AdvanceAt}
 use Rattle.bounds_plan.specs.ElaborateTypes.{Value, Numeric, Address, number_in, pointer_in, Sort, ANumber, APointer, AWhole, NoValue, sort_of, size_in, done_in, right_operand}
 use Rattle.bounds_plan.specs.ElaborateSource.{Stand, Private, Frame}
 

@@ -1,5 +1,5 @@
 -- The scalars of which a type consists, in order of their offsets.
-use Rattle.std.specs.Prelude.{ℕ, zero, suc, ◌+◌, ◌*◌, ◌==◌, if◌then◌else◌, Option, None, Some, List, [], ◌∷◌, ◌++◌, map}
+use Rattle.std.specs.Prelude.{ℕ, zero, suc, ◌+◌, ◌==◌, if◌then◌else◌, None, Some, List, [], ◌∷◌, ◌++◌, map}
 use Rattle.c_types.specs.declared.layout.Layout.{Layout}
 use Rattle.c_types.specs.Types.{CType, Void, Int, Pointer, Array, Struct, StructType}
 use Rattle.c_types.specs.Layouts.{layout_by, layout_of_struct, offsets_from}

@@ -1,6 +1,6 @@
 -- What is known of a source beside its tree when it is elaborated: the types and meanings that its nodes have in tree order, and where its
 -- variables and literals stand. Tree order has children before their parent and goes from left to right.
-use Rattle.std.specs.Prelude.{ℕ, ◌+◌, Option, None, Some, List, [], ◌∷◌, slice_index_or, slice_index}
+use Rattle.std.specs.Prelude.{ℕ, ◌+◌, Option, None, Some, List, slice_index_or, slice_index}
 use Rattle.mx_base.specs.declared.settings.Flags.{Flags}
 use Rattle.c_types.specs.Types.{CType, Void, StructType}
 

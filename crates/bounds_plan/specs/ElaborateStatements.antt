@@ -1,18 +1,16 @@
 -- What a statement of the tree is in the core tree.
 use Rattle.std.specs.Prelude.{ℕ, ◌+◌, Option, None, Some, List, [], ◌∷◌, map}
-use Rattle.mx_base.specs.declared.places.Place.{Place}
 use Rattle.c_tree.specs.declared.tree.Decl.{Decl}
 use Rattle.c_tree.specs.declared.tree.Expr.{Expr}
 use Rattle.c_tree.specs.declared.tree.Init.{Init}
 use Rattle.c_tree.specs.declared.tree.Stmt.{Stmt, fold-Stmt}
 use Rattle.c_tree.specs.declared.tree.StmtKind.{StmtKind-F}
 use Rattle.c_tree.specs.declared.tree.StmtKind.TheOpen as s
-use Rattle.c_types.specs.Types.{CType}
 use Rattle.bounds_plan.specs.Core.{NumberExpr, Word, Null, Effect, Nothing, Statement, Skip, Do, Then, If, While, DoWhile, For, Break, Continue, Return, ReturnNumber, ReturnPtr}
 use Rattle.bounds_plan.specs.ElaborateTypes.{Value, Numeric, Address, number_in, given}
 use Rattle.bounds_plan.specs.ElaborateSource.{Reached, Around, declared_at, bind_at, past_declaration, local_number}
 use Rattle.bounds_plan.specs.ElaboratePlaces.{Lvalue, InMemory, variable_of}
-use Rattle.bounds_plan.specs.ElaborateExpressions.{Found, Reading, find_all}
+use Rattle.bounds_plan.specs.ElaborateExpressions.{Reading, find_all}
 use Rattle.bounds_plan.specs.ElaborateInitialisers.{Filling}
 
 -- a statement, and how far the tree was gone through after it

@@ -1,5 +1,5 @@
 -- The values of C by their types, and the conversions between types (C: 6.3, 6.5.3 to 6.5.15).
-use Rattle.std.specs.Prelude.{ℕ, ◌==◌, ◌||◌, nat_le, nat_lt, Bool, true, false, if◌then◌else◌, Option, None, Some, List}
+use Rattle.std.specs.Prelude.{ℕ, nat_le, nat_lt, Bool, false, if◌then◌else◌, List}
 use Rattle.mx_base.specs.declared.numbers.IntKind.{IntKind}
 use Rattle.mx_base.specs.declared.numbers.IntKind.TheVariants.{I8, U8, I16, U16, I32, U32, I64, U64}
 use Rattle.mx_base.specs.Numbers.{is_signed}

@@ -1,11 +1,9 @@
 -- How many values wait at most at one place of a tree: the earlier arguments of a call, the left operand of an operator other than `&&`, `||` and
 -- `?:`, the address of an assignment, and the array or pointer of an index, each while what comes after it is evaluated.
 use Rattle.std.specs.Prelude.{ℕ, ◌+◌, ◌==◌, ◌||◌, max, Bool, if◌then◌else◌, Option, None, Some, List, [], ◌∷◌, map}
-use Rattle.c_tree.specs.declared.tree.Tree.{Tree}
 use Rattle.c_tree.specs.declared.tree.Item.{Item}
 use Rattle.c_tree.specs.declared.tree.ItemKind.{ItemKind}
 use Rattle.c_tree.specs.declared.tree.ItemKind.TheVariants as k
-use Rattle.c_tree.specs.declared.tree.Decl.{Decl}
 use Rattle.c_tree.specs.declared.tree.Expr.{Expr, fold-Expr}
 use Rattle.c_tree.specs.declared.tree.ExprKind.{ExprKind-F}
 use Rattle.c_tree.specs.declared.tree.ExprKind.TheOpen as e

@@ -1,4 +1,4 @@
-use Rattle.std.proofs.Common.{refl, ap, ◌∙◌, ◌≡◌, [], ◌∷◌}
+use Rattle.std.proofs.Common.{refl, ap, ◌∙◌, ◌≡◌, []}
 use Rattle.std.specs.Fmt.{digits}
 use Rattle.mx_base.specs.Numbers.{residue, as_signed, number_of, value_of, wrapped, word_of, extended}
 use Rattle.mx_base.specs.Operators.{arithmetic, compares, word_arithmetic, word_compares, arithmetic_at, comparison_at}
@@ -17,7 +17,7 @@ use Rattle.c_tree.specs.declared.tree.InitKind.TheBlock.{shape-the_row-Init-0, h
 use Rattle.c_tree.specs.declared.tree.StmtKind.TheBlock.{shape-the_row-Stmt-0, hidden-the_row-Stmt-0, shown-the_row-Stmt-0, shape-the_row-Stmt-1, hidden-the_row-Stmt-1, shown-the_row-Stmt-1}
 use Rattle.bounds_plan.proofs.Laid.{elaborations_same, elaborated_laid}
 use Rattle.bounds_plan.specs.ElaborateFunctions.{gone_by}
-use Rattle.std.specs.Prelude.{codes, Some}
+use Rattle.std.specs.Prelude.{codes}
 use Rattle.mx_base.specs.StopOfC.{Exit}
 use Rattle.bounds_plan.specs.WorkedForms.{calculates, changes, points, fills, goes_round, adds_in_order}
 use Rattle.bounds_plan.specs.WorkedRuns.{runs_of, steps_run_of, data_of, said, saying, narrowing, objects_apart}
