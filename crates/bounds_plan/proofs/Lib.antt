@@ -11,6 +11,7 @@ mod Waiting
 mod WaitingBodies
 mod WaitingItems
 mod Inductions
+mod Inside
 mod Fresh
 mod Once
 mod Outside
