@@ -1,7 +1,7 @@
 -- The scalars of a type lie inside it.
-use Rattle.std.proofs.Common.{◌≡◌, ℕ, zero, suc, ◌+◌, ◌-◌, ◌*◌, ◌/◌, ◌≤◌, ◌<◌, ◌==◌, max, Bool, true, false, refl, List, [], ◌∷◌, ◌++◌, map, if◌then◌else◌, arith}
+use Rattle.std.proofs.Common.{◌≡◌, ℕ, zero, suc, ◌+◌, ◌-◌, ◌*◌, ◌≤◌, ◌<◌, ◌==◌, Bool, true, false, List, [], ◌∷◌, ◌++◌, map, if◌then◌else◌, arith}
 use Rattle.std.proofs.Math.Nat.{lt-div-mul-add, mul-suc}
-use Rattle.std.specs.Prelude.{Option, None, Some}
+use Rattle.std.specs.Prelude.{Some}
 use Rattle.mx_base.specs.declared.numbers.IntKind.{IntKind}
 use Rattle.mx_base.specs.declared.numbers.IntKind.TheVariants.{I8, U8, I16, U16, I32, U32, I64, U64}
 use Rattle.c_types.specs.declared.layout.Layout.{Layout}
@@ -90,7 +90,7 @@ module _ (laid : ℕ → Layout) (of_struct : ℕ → List Scalar) (some : (n : 
   joined_inside [] free m le = tt
   joined_inside (t ∷ ts) free m le = let o = next_multiple free (layout_by laid t).align in let size = (layout_by laid t).size in let g = end_grows laid some (o + size) ts in
       append_inside m (map (scalar_at o) (scalars_by laid of_struct t)) (joined_at (offsets_from (o + size) (map (layout_by laid) ts)) (map (scalars_by laid of_struct) ts))
-        (shifted_inside o size m (scalars_by laid of_struct t) (omega arith) (by_inside t)) (joined_inside ts (o + size) m le)
+      (shifted_inside o size m (scalars_by laid of_struct t) (omega arith) (by_inside t)) (joined_inside ts (o + size) m le)
 
 either_inside : (b : Bool) (x y : Layout) (xs ys : List Scalar) → AllInside x.size xs → AllInside y.size ys → AllInside (if b then x else y).size (if b then xs else ys)
 either_inside true x y xs ys h k = h
@@ -100,8 +100,8 @@ struct_inside : (structs : List StructType) (n : ℕ) → AllInside (layout_of_s
 struct_inside [] n = tt
 struct_inside (e ∷ earlier) n = let laid = layout_of_struct earlier in let ms = map (layout_by laid) e.members in
     either_inside (e.number == n) (struct_layout ms) (laid n) _ _
-      (joined_inside laid (scalars_of_struct earlier) (struct_some earlier) (struct_inside earlier) e.members 0 (struct_layout ms).size (next_enough (end_from 0 ms) (widest ms) (widest_some ms)))
-      (struct_inside earlier n)
+    (joined_inside laid (scalars_of_struct earlier) (struct_some earlier) (struct_inside earlier) e.members 0 (struct_layout ms).size (next_enough (end_from 0 ms) (widest ms) (widest_some ms)))
+    (struct_inside earlier n)
 
 pub scalars_inside : (structs : List StructType) (t : CType) → AllInside (layout_of structs t).size (scalars_of structs t)
 scalars_inside structs t = by_inside (layout_of_struct structs) (scalars_of_struct structs) (struct_some structs) (struct_inside structs) t

@@ -1,4 +1,5 @@
 mod Calls
+mod Copying
 mod Effects
 mod Entry
 mod Exprs

@@ -1,6 +1,7 @@
 -- What the functions that a source is elaborated to must be for their fat steps to do what they mean.
 use Rattle.std.specs.Prelude.{◌≡◌, ℕ, ◌≤◌, Some, List, [], ◌∷◌, length, slice_get, slice_index_or}
 use Rattle.bounds_plan.specs.Compiled.{FitsFunction}
+use Rattle.bounds_plan.specs.Laws.{AllInside, OfCopies}
 use Rattle.bounds_plan.specs.Sorts.{pairs_of}
 use Rattle.bounds_plan.specs.ElaborateSource.{SourceLayout, Signature}
 use Rattle.bounds_plan.specs.ElaborateFunctions.{Defined}
@@ -22,3 +23,8 @@ HaveFewParameters signatures = (number : ℕ) (s : Signature) → slice_get sign
 abbrev pub AllNeed : (pairs : ℕ) → List Defined → Type 0
 AllNeed n [] = Unit {0}
 AllNeed n (d ∷ more) = (pairs_of d.function.body ≤ n) × AllNeed n more
+
+-- in the body of each function the scalars of each struct that is copied lie inside it
+abbrev pub AllCopyInside : List Defined → Type 0
+AllCopyInside [] = Unit {0}
+AllCopyInside (d ∷ more) = OfCopies AllInside d.function.body × AllCopyInside more

@@ -6,7 +6,7 @@ ghost use Rattle.c_tree.specs.declared.tree.Tree.{Tree as TreeOf};
 ghost use Rattle.bounds_plan.specs.ElaborateSource.{Meanings, SourceLayout};
 ghost use Rattle.bounds_plan.specs.ElaborateFunctions.{elaborated, signatures_of};
 ghost use Rattle.bounds_plan.specs.ElaborateWaits.{items_waits};
-ghost use Rattle.bounds_plan.specs.ElaborateLaws.{TakesParameters, AllFit, HaveFewParameters, AllNeed};
+ghost use Rattle.bounds_plan.specs.ElaborateLaws.{TakesParameters, AllFit, HaveFewParameters, AllNeed, AllCopyInside};
 
 /// Every function that a tree is elaborated to is as its steps have it, whatever its tree and layout are: its private parameters
 /// have the first of its private values, its body names only private values of the right sort, and each call gives as many
@@ -20,4 +20,9 @@ pub fn elaborated_functions_fit()
 /// if no function has more than six parameters: where at most 80 values wait, the 88 pairs that functions have are enough.
 pub fn elaborated_functions_need_few_temporaries()
     ensures { (tree : TreeOf) (meanings : Meanings) (layout : SourceLayout) (flags : FlagsOf) → HaveFewParameters (signatures_of tree meanings layout flags) → AllNeed (items_waits tree.items + 8) (elaborated tree meanings layout flags) }
+{}
+
+/// In the body of each function that a tree is elaborated to, the scalars of each struct that is copied lie inside it.
+pub fn elaborated_functions_copy_inside()
+    ensures { (tree : TreeOf) (meanings : Meanings) (layout : SourceLayout) (flags : FlagsOf) → AllCopyInside (elaborated tree meanings layout flags) }
 {}

@@ -6,7 +6,10 @@ mod laws;
 mod sources;
 mod worked;
 
-pub use elaborate_laws::{elaborated_functions_fit, elaborated_functions_need_few_temporaries};
+pub use elaborate_laws::{
+    elaborated_functions_copy_inside, elaborated_functions_fit,
+    elaborated_functions_need_few_temporaries,
+};
 pub use laws::{
     accesses_stay_within_bounds, bounds_have_roots, code_has_its_own_labels,
     compiled_bodies_do_what_they_mean, compiled_functions_do_what_they_mean,
