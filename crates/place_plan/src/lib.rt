@@ -5,6 +5,8 @@ mod data;
 mod frames;
 mod laws;
 mod plan;
+#[cfg(test)]
+mod tests;
 
 pub use data::{GlobalVariable, place_globals};
 pub use frames::{Local, place_locals};
