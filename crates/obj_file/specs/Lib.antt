@@ -5,3 +5,6 @@ pub mod ImageReading
 pub mod Names
 pub mod Object
 pub mod ObjectReading
+pub mod Machine
+pub mod Runs
+pub mod Loaded
