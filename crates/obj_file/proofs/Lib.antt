@@ -3,3 +3,4 @@ pub mod Loop
 pub mod ImageLaws
 pub mod AsciiNames
 pub mod ObjectLaws
+pub mod RunLaws

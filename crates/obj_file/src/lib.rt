@@ -18,6 +18,7 @@ mod object_tests;
 mod object_writer;
 mod parts;
 mod put;
+mod run_laws;
 
 pub use fault::FormFault;
 pub use image::{Files, Image, Segment, Segments, Spot4, Spots4};
@@ -30,3 +31,7 @@ pub use lists::{Bytes, Text};
 pub use object::{Fix, Fixes, Object, Spot3, Spots3, Symbol, Symbols};
 pub use object_reader::read_object;
 pub use object_writer::write_object;
+pub use run_laws::{
+    a_run_is_its_first_event_and_the_rest, events_take_one_turn, quiet_events_may_be_left_out,
+    runs_go_on, stopped_runs_stay_so,
+};

@@ -1,0 +1,31 @@
+//! Laws of the runs of the machine.
+
+ghost use Rattle.std.specs.Prelude.{◌≡◌, ℕ, suc, ◌+◌, true, false, List};
+ghost use Rattle.mx_base.specs.declared.stops.Stop.{Stop as MachineStop};
+ghost use Rattle.obj_file.specs.Machine.{Reading, IsReader, Ground, State, Goes, event};
+ghost use Rattle.obj_file.specs.Runs.{Out, Stopped, after, run_of};
+
+/// A run is its first event and the run from there.
+pub fn a_run_is_its_first_event_and_the_rest<X>()
+    ensures { (g : Ground X) (turns : ℕ) (s : State X) → run_of g turns s ≡ after (run_of g) turns s (event g s) }
+{}
+
+/// An event that takes no turn leads to a state from which the run is the same.
+pub fn quiet_events_may_be_left_out<X>()
+    ensures { (g : Ground X) (turns : ℕ) (s t : State X) → event g s ≡ Goes false t → run_of g turns s ≡ run_of g turns t }
+{}
+
+/// An event that takes a turn leads to a state from which the run with one turn less is the same.
+pub fn events_take_one_turn<X>()
+    ensures { (g : Ground X) (turns : ℕ) (s t : State X) → event g s ≡ Goes true t → run_of g (suc turns) s ≡ run_of g turns t }
+{}
+
+/// A run that is out of turns and goes on with more is the run with all of them.
+pub fn runs_go_on<X>()
+    ensures { (g : Ground X) (turns extra : ℕ) (s last : State X) → run_of g turns s ≡ Out last → run_of g (turns + extra) s ≡ run_of g extra last }
+{}
+
+/// A run that stopped stops in the same way with more turns.
+pub fn stopped_runs_stay_so<X>()
+    ensures { (g : Ground X) (turns extra : ℕ) (s last : State X) (why : MachineStop) → run_of g turns s ≡ Stopped why last → run_of g (turns + extra) s ≡ Stopped why last }
+{}
