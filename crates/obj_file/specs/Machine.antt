@@ -1,7 +1,8 @@
 -- The machine: its state, and what one event makes of it (Intel SDM, volume 1, basic execution environment and Intel MPX). An event
 -- is one instruction, with the table that the runtime makes for it and the instruction's restart counted as the same event. It stands
 -- over any memory with a store of bounds; the one of an image is in Loaded.
-use Rattle.std.specs.Prelude.{◌≡◌, ◌↔◌, ℕ, ◌+◌, ◌-◌, ◌%◌, ◌^◌, ◌≤◌, min, nat_le, Bool, true, false, ◌||◌, if◌then◌else◌, Option, None, Some, List, ◌∷◌, ◌++◌, length, take}
+use Rattle.std.specs.Prelude.{◌≡◌, ◌↔◌, ◌<◌, ℕ, ◌+◌, ◌-◌, ◌%◌, ◌^◌, ◌≤◌, min, nat_le, Bool, true, false, ◌||◌, if◌then◌else◌, Option, None, Some, List, ◌∷◌, ◌++◌, length, take}
+use Rattle.std.specs.List.{All}
 use Rattle.std.specs.Option.{option_or}
 use Rattle.mx_base.specs.declared.stops.Stop.{Stop}
 use Rattle.mx_base.specs.declared.stops.Stop.TheVariants as stop
@@ -36,10 +37,10 @@ Begins bytes i size = (size ≤ length bytes) × Spells (take size bytes) i
 abbrev pub BeginsPart : List ℕ → Type 0
 BeginsPart bytes = (i : Instr) × (b : ℕ) × (rest : List ℕ) × Spells (bytes ++ b ∷ rest) i
 
--- a function on bytes that tells what they begin with. There is one, and no more than one
+-- a function that tells of bytes what they begin with
 pub record IsReader (reads : List ℕ → Reading) : Type 0 where
-  pub whole : (bytes : List ℕ) (i : Instr) (size : ℕ) → (reads bytes ≡ Is i size) ↔ Begins bytes i size
-  pub part : (bytes : List ℕ) → (reads bytes ≡ Part) ↔ BeginsPart bytes
+  pub whole : (bytes : List ℕ) (i : Instr) (size : ℕ) → All (λ b. b < 256) bytes → (reads bytes ≡ Is i size) ↔ Begins bytes i size
+  pub part : (bytes : List ℕ) → All (λ b. b < 256) bytes → (reads bytes ≡ Part) ↔ BeginsPart bytes
 
 -- ---- state
 

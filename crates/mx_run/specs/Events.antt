@@ -1,0 +1,89 @@
+-- What events and runs leave in a machine's parts, in the source and in the sink.
+use Rattle.std.specs.Prelude.{◌≡◌, ℕ, ◌+◌, ◌-◌, ◌*◌, ◌<◌, Bool, true, false, Option, None, Some, List, [], ◌++◌}
+use Rattle.mx_base.specs.declared.stops.Stop.{Stop}
+use Rattle.mx_base.specs.declared.stops.Stop.TheVariants as stop
+use Rattle.mx_base.specs.Outside.{Adds, HasRisen}
+use Rattle.paged_memory.specs.Paged.{Paged}
+use Rattle.obj_file.specs.Machine.{Ground, State, Deed, Does, Halts}
+use Rattle.obj_file.specs.Runs.{End, Out, Stopped, run_of}
+use Rattle.obj_file.specs.Loaded.{Tabled}
+use Rattle.mx_run.specs.declared.parts.Parts.{Parts}
+use Rattle.mx_run.specs.Parts.{state_of, LacksFrames}
+
+-- a machine's parts, with what is told of the source and the sink
+pub record Around : Type 0 where
+  pub parts : Parts
+  pub left : Option (List ℕ)
+  pub held : Option (List ℕ)
+
+-- this is the state now: the source has the state's input left, and the sink what the state's output has more than so far
+pub record IsNow (held : Option (List ℕ)) (so_far : List ℕ) (new : Around) (s : State Tabled) : Type 0 where
+  pub rest : List ℕ
+  pub more : List ℕ
+  pub left : new.left ≡ Some rest
+  pub adds : Adds held new.held more
+  pub is : s ≡ state_of new.parts rest (so_far ++ more)
+
+-- a front of what the output has more than so far was put into the sink
+pub record IsCut (held : Option (List ℕ)) (so_far : List ℕ) (held' : Option (List ℕ)) (out : List ℕ) : Type 0 where
+  pub front : List ℕ
+  pub rest : List ℕ
+  pub adds : Adds held held' front
+  pub splits : out ≡ so_far ++ (front ++ rest)
+
+-- ---- an instruction
+
+-- nothing was put
+abbrev pub PutsNothing : Option (List ℕ) → Option (List ℕ) → Type 0
+PutsNothing held held' = Adds held held' []
+
+-- the instruction was done so, or a front of its output was put
+abbrev pub Acts : Deed Tabled → Option (List ℕ) → List ℕ → Around → Option Stop → Type 0
+Acts d held so_far new None = (t : State Tabled) × (d ≡ Does t) × IsNow held so_far new t
+Acts d held so_far new (Some (stop.NoFrames in_use capacity)) = PutsNothing held new.held
+Acts d held so_far new (Some stop.ReadFault) = PutsNothing held new.held
+Acts d held so_far new (Some stop.WriteFault) = (t : State Tabled) × (d ≡ Does t) × IsCut held so_far new.held t.guest.out
+Acts d held so_far new (Some why) = (t : State Tabled) × (d ≡ Halts why t) × IsNow held so_far new t
+
+-- ---- runs
+
+abbrev pub out_of : End Tabled → List ℕ
+out_of (Out last) = last.guest.out
+out_of (Stopped why last) = last.guest.out
+
+-- a run ended so; for want of frames, or by a fault of the source or the sink, it was given up, and a front of its output was put
+abbrev pub Ends : End Tabled → Option (List ℕ) → List ℕ → Around → Stop → Type 0
+Ends e held so_far new stop.OutOfTurns = (t : State Tabled) × (e ≡ Out t) × IsNow held so_far new t
+Ends e held so_far new (stop.NoFrames in_use capacity) = IsCut held so_far new.held (out_of e)
+Ends e held so_far new stop.ReadFault = IsCut held so_far new.held (out_of e)
+Ends e held so_far new stop.WriteFault = IsCut held so_far new.held (out_of e)
+Ends e held so_far new why = (t : State Tabled) × (e ≡ Stopped why t) × IsNow held so_far new t
+
+-- an event leads to the rest of the run, or it ends it
+abbrev pub Moves : Ground Tabled → ℕ → State Tabled → Option (List ℕ) → List ℕ → ℕ → Around → Option Stop → Type 0
+Moves g turns s held so_far left new None = (t : State Tabled) × (run_of g turns s ≡ run_of g left t) × IsNow held so_far new t
+Moves g turns s held so_far left new (Some why) = Ends (run_of g turns s) held so_far new why
+
+-- turns left and code ahead, in one number
+abbrev pub ahead : ℕ → ℕ → ℕ
+ahead turns rip = turns * 0x1100_0001 + (0x1100_0000 - rip)
+
+abbrev pub Falls : ℕ → ℕ → ℕ → ℕ → Option Stop → Type 0
+Falls turns rip left rip' None = ahead left rip' < ahead turns rip
+Falls turns rip left rip' (Some why) = Unit {0}
+
+-- ---- faults
+
+-- the count of the source, or of the sink, rises exactly where its fault ends the run
+abbrev pub CountsReads : Option Stop → ℕ → ℕ → Type 0
+CountsReads (Some stop.ReadFault) old new = HasRisen old new
+CountsReads answer old new = new ≡ old
+
+abbrev pub CountsWrites : Option Stop → ℕ → ℕ → Type 0
+CountsWrites (Some stop.WriteFault) old new = HasRisen old new
+CountsWrites answer old new = new ≡ old
+
+-- where frames were too few, a write found it so
+abbrev pub FindsFew : Paged → Option Stop → Type 0
+FindsFew m (Some (stop.NoFrames in_use capacity)) = LacksFrames m in_use capacity
+FindsFew m answer = Unit {0}

@@ -1,0 +1,4 @@
+pub mod Reads
+pub mod Parts
+pub mod Events
+pub mod Placing

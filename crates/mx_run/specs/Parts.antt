@@ -1,0 +1,75 @@
+-- What the parts of a machine stand for, and what executing an instruction makes of them.
+use Rattle.std.specs.Prelude.{◌≡◌, ℕ, Bool, Option, None, Some, List, slice_index}
+use Rattle.mx_base.specs.declared.stops.Stop.{Stop}
+use Rattle.mx_base.specs.declared.stops.Stop.TheVariants as stop
+use Rattle.paged_memory.specs.declared.stops.MemStop.{MemStop}
+use Rattle.paged_memory.specs.declared.stops.MemStop.TheVariants as mem
+use Rattle.paged_memory.specs.Paged.{Paged, bytes_of}
+use Rattle.paged_memory.specs.Answers.{IsShort}
+use Rattle.x86_forms.specs.Processor.{Processor}
+use Rattle.x86_alu.specs.Alu.{flags_in}
+use Rattle.x86_core.specs.declared.cpu.Cpu.{Cpu}
+use Rattle.x86_core.specs.declared.cpu.CoreStop.{CoreStop}
+use Rattle.x86_core.specs.declared.cpu.CoreStop.TheVariants as core
+use Rattle.mpx_core.specs.declared.registers.BndRegs.{BndRegs}
+use Rattle.mpx_core.specs.Registers.{bounds_of, preserves}
+use Rattle.obj_file.specs.Machine.{Ground, State, Deed, Does, Halts}
+use Rattle.obj_file.specs.Loaded.{Tabled, tabled_store, table_made}
+use Rattle.mx_run.specs.declared.parts.Parts.{Parts}
+use Rattle.mx_run.specs.Reads.{reader}
+
+-- what runs of a machine stand on, by its configuration register
+abbrev pub ground : ℕ → ℕ → Bool → Ground Tabled
+ground cfg outers bare = record {
+  reads = reader;
+  store = tabled_store cfg;
+  bytes = λ x. x.bytes;
+  serve = table_made;
+  outers = outers;
+  bare = bare;
+}
+
+abbrev pub processor_of : Cpu → BndRegs → Processor
+processor_of cpu b = record {
+  regs = slice_index cpu.regs;
+  flags = flags_in cpu.flags;
+  rip = cpu.rip;
+  bounds = bounds_of b;
+  preserve = preserves b.cfg;
+  status = b.status;
+}
+
+abbrev pub tabled_of : Paged → ℕ → Tabled
+tabled_of m made = record { bytes = bytes_of m; made = made }
+
+-- the state of a machine with these parts, once it has written this output and where this input is left
+abbrev pub state_of : Parts → List ℕ → List ℕ → State Tabled
+state_of p input out = record {
+  processor = processor_of p.cpu p.bnd;
+  memory = tabled_of p.memory p.tables.made;
+  guest = record { heap = p.heap; input = input; out = out };
+  steps = p.steps;
+}
+
+abbrev pub memory_stop : MemStop → Stop
+memory_stop (mem.Unmapped a) = stop.Unmapped a
+memory_stop (mem.NoFrames in_use capacity) = stop.NoFrames in_use capacity
+
+abbrev pub core_stop : ℕ → CoreStop → Stop
+core_stop from (core.Mem s) = memory_stop s
+core_stop from core.Divide = stop.Divide
+core_stop from core.Undefined = stop.Undefined from
+
+-- a write of some bytes found too few free frames, with these numbers
+abbrev pub LacksFrames : Paged → ℕ → ℕ → Type 0
+LacksFrames m in_use capacity = (n at : ℕ) × IsShort n at m in_use capacity
+
+-- the deed stopped in this state, or frames were too few
+abbrev pub HaltsIn : Deed Tabled → State Tabled → Paged → Stop → Type 0
+HaltsIn d s m (stop.NoFrames in_use capacity) = LacksFrames m in_use capacity
+HaltsIn d s m why = d ≡ Halts why s
+
+-- what executing leaves and answers
+abbrev pub Executes : Deed Tabled → Parts → List ℕ → List ℕ → Option Stop → Type 0
+Executes d new input out None = d ≡ Does (state_of new input out)
+Executes d new input out (Some why) = HaltsIn d (state_of new input out) new.memory why
