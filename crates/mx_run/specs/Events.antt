@@ -1,14 +1,19 @@
 -- What events and runs leave in a machine's parts, in the source and in the sink.
-use Rattle.std.specs.Prelude.{◌≡◌, ℕ, ◌+◌, ◌-◌, ◌*◌, ◌<◌, Bool, true, false, Option, None, Some, List, [], ◌++◌}
+use Rattle.std.specs.Prelude.{◌≡◌, ℕ, ◌+◌, ◌-◌, ◌*◌, ◌<◌, ◌==◌, ◌||◌, not, if◌then◌else◌, Bool, true, false, Option, None, Some, List, [], ◌++◌}
 use Rattle.mx_base.specs.declared.stops.Stop.{Stop}
 use Rattle.mx_base.specs.declared.stops.Stop.TheVariants as stop
 use Rattle.mx_base.specs.Outside.{Adds, HasRisen}
 use Rattle.paged_memory.specs.Paged.{Paged}
-use Rattle.obj_file.specs.Machine.{Ground, State, Deed, Does, Halts}
+use Rattle.mx_base.specs.Services.{Guest, Served, Answers, Exits, Overflows, Refused as Denied}
+use Rattle.x86_forms.specs.declared.instr.Instr.TheVariants.{Syscall}
+use Rattle.x86_forms.specs.Processor.{rax}
+use Rattle.x86_forms.specs.Table.{with_result}
+use Rattle.x86_forms.specs.Watch.{access_strays}
+use Rattle.obj_file.specs.Machine.{Ground, State, Deed, Does, Halts, service_span}
 use Rattle.obj_file.specs.Runs.{End, Out, Stopped, run_of}
 use Rattle.obj_file.specs.Loaded.{Tabled}
 use Rattle.mx_run.specs.declared.parts.Parts.{Parts}
-use Rattle.mx_run.specs.Parts.{state_of, LacksFrames}
+use Rattle.mx_run.specs.Parts.{state_of, processor_of, LacksFrames}
 
 -- a machine's parts, with what is told of the source and the sink
 pub record Around : Type 0 where
@@ -31,6 +36,29 @@ pub record IsCut (held : Option (List ℕ)) (so_far : List ℕ) (held' : Option 
   pub adds : Adds held held' front
   pub splits : out ≡ so_far ++ (front ++ rest)
 
+-- ---- a service
+
+-- nothing was taken from the source and put into the sink
+abbrev pub IsUntouched : Option (List ℕ) → List ℕ → Around → Type 0
+IsUntouched held bytes new = (new.left ≡ Some bytes) × Adds held new.held []
+
+-- the service was done so that these parts had asked for
+abbrev pub Serves : Served Stop → Parts → Option (List ℕ) → List ℕ → List ℕ → Around → Option Stop → Type 0
+Serves v p held so_far bytes new None =
+    (word : ℕ) × (g : Guest) × (v ≡ Answers word g) × IsNow held so_far new (record (state_of p bytes so_far) { processor = with_result (processor_of p.cpu p.bnd) 64 rax word; guest = g })
+Serves v p held so_far bytes new (Some stop.WriteFault) = (word : ℕ) × (g : Guest) × (v ≡ Answers word g) × IsCut held so_far new.held g.out
+Serves v p held so_far bytes new (Some stop.ReadFault) = Adds held new.held []
+Serves v p held so_far bytes new (Some (stop.Exit code)) = (v ≡ Exits code) × IsUntouched held bytes new
+Serves v p held so_far bytes new (Some stop.StackOver) = (v ≡ Overflows) × IsUntouched held bytes new
+Serves v p held so_far bytes new (Some (stop.Unmapped a)) = (v ≡ Denied (stop.Unmapped a)) × IsUntouched held bytes new
+Serves v p held so_far bytes new (Some (stop.Strayed x)) = (v ≡ Denied (stop.Strayed x)) × IsUntouched held bytes new
+Serves v p held so_far bytes new (Some why) = ⊥
+
+-- where the bytes of a write stray
+abbrev pub write_strays : Bool → ℕ → ℕ → ℕ → ℕ → ℕ → Option ℕ
+write_strays bare from number rdi rsi rdx =
+    if bare || not (number == 1) || not (rdi == 1) || rdx == 0 then None else access_strays Syscall from (service_span rsi rdx)
+
 -- ---- an instruction
 
 -- nothing was put
@@ -43,6 +71,7 @@ Acts d held so_far new None = (t : State Tabled) × (d ≡ Does t) × IsNow held
 Acts d held so_far new (Some (stop.NoFrames in_use capacity)) = PutsNothing held new.held
 Acts d held so_far new (Some stop.ReadFault) = PutsNothing held new.held
 Acts d held so_far new (Some stop.WriteFault) = (t : State Tabled) × (d ≡ Does t) × IsCut held so_far new.held t.guest.out
+Acts d held so_far new (Some stop.OutOfTurns) = ⊥
 Acts d held so_far new (Some why) = (t : State Tabled) × (d ≡ Halts why t) × IsNow held so_far new t
 
 -- ---- runs

@@ -12,8 +12,13 @@ use Rattle.x86_core.specs.declared.cpu.Cpu.{Cpu}
 use Rattle.x86_core.specs.declared.cpu.CoreStop.{CoreStop}
 use Rattle.x86_core.specs.declared.cpu.CoreStop.TheVariants as core
 use Rattle.mpx_core.specs.declared.registers.BndRegs.{BndRegs}
+use Rattle.mpx_core.specs.declared.registers.BndStop.{BndStop}
+use Rattle.mpx_core.specs.declared.registers.BndStop.TheVariants as bnd
 use Rattle.mpx_core.specs.Registers.{bounds_of, preserves}
-use Rattle.obj_file.specs.Machine.{Ground, State, Deed, Does, Halts}
+use Rattle.x86_forms.specs.declared.instr.Instr.{Instr}
+use Rattle.x86_forms.specs.Requests.{run}
+use Rattle.x86_forms.specs.Table.{row}
+use Rattle.obj_file.specs.Machine.{Ground, State, Deed, Does, Halts, ended}
 use Rattle.obj_file.specs.Loaded.{Tabled, tabled_store, table_made}
 use Rattle.mx_run.specs.declared.parts.Parts.{Parts}
 use Rattle.mx_run.specs.Reads.{reader}
@@ -67,7 +72,27 @@ LacksFrames m in_use capacity = (n at : ℕ) × IsShort n at m in_use capacity
 -- the deed stopped in this state, or frames were too few
 abbrev pub HaltsIn : Deed Tabled → State Tabled → Paged → Stop → Type 0
 HaltsIn d s m (stop.NoFrames in_use capacity) = LacksFrames m in_use capacity
+HaltsIn d s m stop.OutOfTurns = ⊥
+HaltsIn d s m stop.ReadFault = ⊥
+HaltsIn d s m stop.WriteFault = ⊥
 HaltsIn d s m why = d ≡ Halts why s
+
+-- how a step of an MPX instruction stops, once a table was made for it
+abbrev pub bounds_stop : ℕ → BndStop → Stop
+bounds_stop from (bnd.Violation value lb ub) = stop.Bounds (record { value = value; lb = lb; ub = ub; rip = from })
+bounds_stop from (bnd.Invalid entry) = stop.NoTable
+bounds_stop from (bnd.Stop s) = memory_stop s
+
+-- an MPX instruction done once, where an entry that names no table ends it
+abbrev pub once : Ground Tabled → Instr → ℕ → State Tabled → Deed Tabled
+once g i next s = ended s (run g.store s.processor (row i next s.processor) s.memory)
+
+-- the next table was put into a directory entry
+abbrev pub MakesTable : ℕ → Tabled → Tabled → Paged → Option Stop → Type 0
+MakesTable entry x y m None = table_made x entry ≡ Some y
+MakesTable entry x y m (Some stop.NoTable) = (table_made x entry ≡ None) × (y ≡ x)
+MakesTable entry x y m (Some (stop.NoFrames in_use capacity)) = LacksFrames m in_use capacity
+MakesTable entry x y m (Some why) = ⊥
 
 -- what executing leaves and answers
 abbrev pub Executes : Deed Tabled → Parts → List ℕ → List ℕ → Option Stop → Type 0

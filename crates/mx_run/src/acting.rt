@@ -1,4 +1,12 @@
 //! All that an instruction does.
+ghost use Rattle.std.specs.Prelude.{◌≡◌, ℕ, ◌+◌, ◌%◌, ◌^◌, List, Some, IsTrue, slice_index};
+ghost use Rattle.x86_forms.specs.Accesses.{accesses, reach_of};
+ghost use Rattle.x86_forms.specs.Validity.{valid_of};
+ghost use Rattle.x86_forms.specs.Watch.{control_strays};
+ghost use Rattle.obj_file.specs.Machine.{is_call, is_return, is_service, unless_bare, reach_strays as strays_of, with_service_of, executed, deed_of};
+ghost use Rattle.mx_run.specs.Parts.{ground, state_of};
+ghost use Rattle.mx_run.specs.Events.{Acts, CountsReads, CountsWrites, FindsFew};
+
 use crate::executing::execute;
 use crate::parts::{Doors, Parts};
 use crate::serving::serve_guest;
@@ -21,8 +29,18 @@ pub fn returns(i: &Instr) -> bool
     matches!(i, Instr::Ret { .. })
 }
 
+/// Whether an instruction asks for a service.
+fn asks(i: &Instr) -> bool
+    ensures { result ≡ is_service i.now }
+{
+    matches!(i, Instr::Syscall)
+}
+
 /// The verdict on the accesses of an instruction.
-fn judge_accesses(p: &Parts, bare: bool, i: &Instr, next: u64) -> Option<u64> {
+fn judge_accesses(p: &Parts, bare: bool, i: &Instr, next: u64) -> Option<u64>
+    requires { IsTrue (valid_of i.now) }
+    ensures { result ≡ unless_bare bare (strays_of i.now p.now.cpu.rip (reach_of (accesses i.now next (slice_index p.now.cpu.regs)))) }
+{
     if bare {
         return None;
     }
@@ -30,7 +48,9 @@ fn judge_accesses(p: &Parts, bare: bool, i: &Instr, next: u64) -> Option<u64> {
 }
 
 /// The verdict on where an instruction leads.
-fn judge_control(doors: Doors, i: &Instr, from: u64, to: u64) -> Option<u64> {
+fn judge_control(doors: Doors, i: &Instr, from: u64, to: u64) -> Option<u64>
+    ensures { result ≡ unless_bare doors.bare (control_strays from to (is_call i.now) (is_return i.now) doors.outers) }
+{
     if doors.bare {
         return None;
     }
@@ -40,23 +60,30 @@ fn judge_control(doors: Doors, i: &Instr, from: u64, to: u64) -> Option<u64> {
     }
 }
 
-/// The instruction, and its service if it is a `syscall`. A stop of the service leaves the parts as they were.
+/// The instruction, and its service if it asks for one. A stop of the service leaves the parts as they were.
 fn execute_served<I: Source, O: Sink>(
     p: &mut Parts,
-    bare: bool,
+    doors: Doors,
     i: &Instr,
     len: u8,
     input: &mut I,
     out: &mut O,
-) -> Option<Stop> {
+) -> Option<Stop>
+    requires valid { IsTrue (valid_of i.now) }
+    ensures acts { (bytes so_far : List ℕ) → I.left input.old ≡ Some bytes → Acts (with_service_of (ground p.old.bnd.cfg doors.outers doors.bare) i.now (state_of p.old bytes so_far) (executed (ground p.old.bnd.cfg doors.outers doors.bare) i.now ((p.old.cpu.rip + len) % 2 ^ 64) (state_of p.old bytes so_far))) (O.held out.old) so_far record { parts = p.new; left = I.left input.new; held = O.held out.new } result }
+    ensures reads { CountsReads result (I.faults input.old) (I.faults input.new) }
+    ensures writes { CountsWrites result (O.faults out.old) (O.faults out.new) }
+    ensures few { FindsFew p.new.memory result }
+    ensures cfg { p.new.bnd.cfg ≡ p.old.bnd.cfg }
+{
     let before = p.cpu;
     if let Some(stop) = execute(p, i, len) {
         return Some(stop);
     }
-    if !matches!(i, Instr::Syscall) {
+    if !asks(i) {
         return None;
     }
-    match serve_guest(p, bare, before.rip, input, out) {
+    match serve_guest(p, doors.bare, before.rip, input, out) {
         None => None,
         Some(stop) => {
             p.cpu = before;
@@ -74,12 +101,19 @@ pub fn act<I: Source, O: Sink>(
     len: u8,
     input: &mut I,
     out: &mut O,
-) -> Option<Stop> {
+) -> Option<Stop>
+    requires valid { IsTrue (valid_of i.now) }
+    ensures acts { (bytes so_far : List ℕ) → I.left input.old ≡ Some bytes → Acts (deed_of (ground p.old.bnd.cfg doors.outers doors.bare) i.now ((p.old.cpu.rip + len) % 2 ^ 64) (state_of p.old bytes so_far)) (O.held out.old) so_far record { parts = p.new; left = I.left input.new; held = O.held out.new } result }
+    ensures reads { CountsReads result (I.faults input.old) (I.faults input.new) }
+    ensures writes { CountsWrites result (O.faults out.old) (O.faults out.new) }
+    ensures few { FindsFew p.new.memory result }
+    ensures cfg { p.new.bnd.cfg ≡ p.old.bnd.cfg }
+{
     let from = p.cpu.rip;
     if let Some(x) = judge_accesses(p, doors.bare, i, from.wrapping_add(u64::from(len))) {
         return Some(Stop::Strayed(x));
     }
-    if let Some(stop) = execute_served(p, doors.bare, i, len, input, out) {
+    if let Some(stop) = execute_served(p, doors, i, len, input, out) {
         return Some(stop);
     }
     match judge_control(doors, i, from, p.cpu.rip) {

@@ -1,4 +1,6 @@
 //! The machine that runs an image.
+ghost use Rattle.std.specs.Prelude.{◌<◌};
+
 use crate::config::{Config, MakeFault};
 use crate::event::run_events;
 use crate::parts::{Doors, Parts};

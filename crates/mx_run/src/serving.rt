@@ -1,12 +1,20 @@
 //! The service of a `syscall`.
+ghost use Rattle.std.specs.Prelude.{◌≡◌, ℕ, List, Some, IfSome, slice_index};
+ghost use Rattle.mx_base.specs.Services.{service_of, served};
+ghost use Rattle.paged_memory.specs.Paged.{bytes_of};
+ghost use Rattle.obj_file.specs.Machine.{bytes_judged};
+ghost use Rattle.mx_run.specs.Events.{Serves, CountsReads, CountsWrites, write_strays as strays_at};
+
 use crate::parts::Parts;
 use crate::watch::span_strays;
 use guest_services::{Served, call};
 use mx_base::{Sink, Source, Stop};
 use x86_forms::{Instr, Span};
 
-/// Where the bytes of a write stray, which legacy code asks for at address `from`.
-fn write_strays(bare: bool, from: u64, number: u64, args: [u64; 3]) -> Option<u64> {
+/// Where the bytes of a write stray that code at address `from` asks for.
+fn write_strays(bare: bool, from: u64, number: u64, args: [u64; 3]) -> Option<u64>
+    ensures { result ≡ strays_at bare from number (slice_index args 0) (slice_index args 1) (slice_index args 2) }
+{
     if bare || number != 1 || args[0] != 1 || args[2] == 0 {
         return None;
     }
@@ -19,14 +27,20 @@ fn write_strays(bare: bool, from: u64, number: u64, args: [u64; 3]) -> Option<u6
     span_strays(&Instr::Syscall, from, Some(bytes))
 }
 
-/// Does the service that the registers name. A stop leaves them.
+/// Does the service that the registers name. A stop leaves the parts.
 pub fn serve_guest<I: Source, O: Sink>(
     p: &mut Parts,
     bare: bool,
     from: u64,
     input: &mut I,
     out: &mut O,
-) -> Option<Stop> {
+) -> Option<Stop>
+    ensures serves { (bytes so_far : List ℕ) → I.left input.old ≡ Some bytes → Serves (served (bytes_of p.old.memory) (bytes_judged bare from) (service_of (slice_index p.old.cpu.regs 0)) (slice_index p.old.cpu.regs 7) (slice_index p.old.cpu.regs 6) (slice_index p.old.cpu.regs 2) record { heap = p.old.heap; input = bytes; out = so_far }) p.old (O.held out.old) so_far bytes record { parts = p.new; left = I.left input.new; held = O.held out.new } result }
+    ensures reads { CountsReads result (I.faults input.old) (I.faults input.new) }
+    ensures writes { CountsWrites result (O.faults out.old) (O.faults out.new) }
+    ensures kept { IfSome result (λ e. p.new ≡ p.old) }
+    ensures cfg { p.new.bnd.cfg ≡ p.old.bnd.cfg }
+{
     let number = p.cpu.regs[0];
     let args = [p.cpu.regs[7], p.cpu.regs[6], p.cpu.regs[2]];
     if let Some(x) = write_strays(bare, from, number, args) {

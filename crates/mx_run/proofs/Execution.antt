@@ -1,0 +1,129 @@
+-- What a step of the processor makes of a state, from what its row does over frames.
+use Rattle.std.proofs.Common.{◌≡◌, ◌∙◌, ℕ, ◌<◌, Bool, true, false, List, refl, sym, ap, subst, slice_index, ◌||◌, IsTrue}
+use Rattle.std.specs.Prelude.{Option, Some, None, Result, Ok, Err, if◌then◌else◌}
+use Rattle.mx_base.specs.declared.limits.Bounds.{Bounds}
+use Rattle.mx_base.specs.declared.stops.Stop.{Stop}
+use Rattle.mx_base.specs.declared.stops.Stop.TheVariants as stop
+use Rattle.mx_base.specs.Services.{Guest}
+use Rattle.paged_memory.specs.declared.stops.MemStop.{MemStop}
+use Rattle.paged_memory.specs.declared.stops.MemStop.TheVariants as mem
+use Rattle.paged_memory.specs.Paged.{Paged, bytes_of, touched_of}
+use Rattle.paged_memory.specs.Answers.{IsShort}
+use Rattle.bound_tables.specs.declared.walks.Walk.{Walk}
+use Rattle.bound_tables.specs.declared.walks.Walk.TheVariants as walks
+use Rattle.x86_forms.specs.declared.instr.Instr.{Instr}
+use Rattle.x86_forms.specs.Processor.{Processor}
+use Rattle.x86_forms.specs.Requests.{Fault, Divides, Undefines, Violates, Outcome, Done, Failed, Refused, run}
+use Rattle.x86_forms.specs.Table.{row, init_bounds, at_next}
+use Rattle.x86_forms.specs.TableLaws.{BoundsAfter}
+use Rattle.x86_forms.proofs.TableKeeps.{tidy_row}
+use Rattle.x86_core.specs.declared.cpu.Cpu.{Cpu}
+use Rattle.x86_core.specs.declared.cpu.Done.{Done as Kind}
+use Rattle.x86_core.specs.declared.cpu.CoreStop.{CoreStop}
+use Rattle.x86_core.specs.declared.cpu.CoreStop.TheVariants as core
+use Rattle.x86_core.specs.Framed.{Framed, framed, framed_of}
+use Rattle.x86_core.specs.Steps.{BoundsState, seen, is_plain, bounds_after, outcome_of}
+use Rattle.mpx_core.specs.declared.registers.BndRegs.{BndRegs}
+use Rattle.mpx_core.specs.declared.registers.BndStop.{BndStop}
+use Rattle.mpx_core.specs.declared.registers.BndStop.TheVariants as bnd
+use Rattle.mpx_core.specs.Registers.{bounds_of, preserves}
+use Rattle.mpx_core.specs.Steps as mpx
+use Rattle.obj_file.specs.Machine.{Refusal, Misses, Invalid, Ground, State, Deed, Does, Halts, ended, restarted, served_or_ended, executed}
+use Rattle.obj_file.specs.Loaded.{Tabled, tabled_store, table_made}
+use Rattle.mx_run.specs.Parts.{ground, processor_of, tabled_of, core_stop, memory_stop, bounds_stop, once, LacksFrames, HaltsIn}
+use Rattle.mx_run.proofs.PlainRows.{branches, jumps, plain_row}
+use Rattle.mx_run.proofs.Frames.{tabled, SameTabled, plain_tabled, walk_tabled, SameWalked, walked_tabled, FewFrames, FewIn, plain_few, FewInWalk, walked_few, IsOfDirectory, NamesEntry, names_entry}
+
+abbrev pub state_with : Processor → Tabled → Guest → ℕ → State Tabled
+state_with c x guest steps = record { processor = c; memory = x; guest = guest; steps = steps }
+
+-- beside the processor, what bounds registers have
+abbrev pub beside : BndRegs → BoundsState
+beside b = record { bounds = bounds_of b; preserve = preserves b.cfg; status = b.status }
+
+-- the numbers of a refusal for want of frames, in what the memory stands for then
+pub lacks : (m : Paged) (in_use capacity : ℕ) → FewFrames (touched_of m) m.capacity in_use capacity → LacksFrames m in_use capacity
+lacks m in_use capacity h = (h.0, h.1, record { few = h.2; in_use = h.3; capacity = h.4 })
+
+-- ---- plain instructions
+
+abbrev pub PlainEnds : Deed Tabled → BoundsState → Cpu → Paged → ℕ → Guest → ℕ → ℕ → Result Kind CoreStop → Type 0
+PlainEnds d bs cpu m made guest steps from (Ok kind) = d ≡ Does (state_with (seen (bounds_after kind bs) cpu) (tabled_of m made) guest steps)
+PlainEnds d bs cpu m made guest steps from (Err why) = HaltsIn d (state_with (seen bs cpu) (tabled_of m made) guest steps) m (core_stop from why)
+
+module _ (cfg outers : ℕ) (bare : Bool) (i : Instr) (next : ℕ) (made : ℕ) (guest : Guest) (steps : ℕ) where
+  abbrev Executed : Processor → Tabled → Deed Tabled
+  Executed c x = executed (ground cfg outers bare) i next (state_with c x guest steps)
+
+  abbrev Ended : Processor → Tabled → Outcome Tabled Refusal → Deed Tabled
+  Ended c x e = served_or_ended (ground cfg outers bare) i next (state_with c x guest steps) e
+
+  pub executed_as : (c : Processor) (x : Tabled) (e : Outcome Tabled Refusal) → run (tabled_store cfg) c (row i next c) x ≡ e → Executed c x ≡ Ended c x e
+  unfolding executed
+  executed_as c x e h = ap (served_or_ended (ground cfg outers bare) i next (state_with c x guest steps)) h
+
+  plain_ends : (bs : BoundsState) (cpu cpu' : Cpu) (m m' : Paged) (r : Result Kind CoreStop)
+      → SameTabled made (outcome_of bs cpu' m' r) (run (tabled_store cfg) (seen bs cpu) (row i next (seen bs cpu)) (tabled_of m made)) → FewIn (outcome_of bs cpu' m' r)
+      → PlainEnds (Executed (seen bs cpu) (tabled_of m made)) bs cpu' m' made guest steps cpu.rip r
+  plain_ends bs cpu cpu' m m' (Ok kind) h few = executed_as _ _ _ h
+  plain_ends bs cpu cpu' m m' (Err (core.Mem (mem.Unmapped a))) h few = executed_as _ _ _ h
+  plain_ends bs cpu cpu' m m' (Err (core.Mem (mem.NoFrames in_use capacity))) h few = lacks m' in_use capacity few
+  plain_ends bs cpu cpu' m m' (Err core.Divide) h few = executed_as _ _ _ h
+  plain_ends bs cpu cpu' m m' (Err core.Undefined) h few = executed_as _ _ _ h
+
+  pub plain_executes : (bs : BoundsState) (cpu cpu' : Cpu) (m m' : Paged) (r : Result Kind CoreStop) → is_plain i ≡ true
+      → run framed (seen bs cpu) (row i next (seen bs cpu)) (framed_of m) ≡ outcome_of bs cpu' m' r
+      → PlainEnds (Executed (seen bs cpu) (tabled_of m made)) bs cpu' m' made guest steps cpu.rip r
+  plain_executes bs cpu cpu' m m' r plain h =
+      let c = seen bs cpu in
+      plain_ends bs cpu cpu' m m' r
+      (subst (λ (o : Outcome Framed MemStop). SameTabled made o (run (tabled_store cfg) (seen bs cpu) (row i next (seen bs cpu)) (tabled_of m made))) h
+      (plain_tabled cfg made (seen bs cpu) (BoundsAfter i (seen bs cpu)) (jumps i) (branches i) next (row i next (seen bs cpu)) (framed_of m) (tidy_row i next (seen bs cpu)) (plain_row i next (seen bs cpu) plain)))
+      (subst FewIn h (plain_few (seen bs cpu) (BoundsAfter i (seen bs cpu)) (jumps i) (branches i) next (row i next (seen bs cpu)) (framed_of m) (tidy_row i next (seen bs cpu)) (plain_row i next (seen bs cpu) plain)))
+
+-- the bounds registers after a branch
+pub branched_as : (cpu : Cpu) (b b' : BndRegs) (prefixed : Bool) → bounds_of b' ≡ (if prefixed || preserves b.cfg then bounds_of b else init_bounds) → b'.cfg ≡ b.cfg → b'.status ≡ b.status
+    → seen (record (beside b) { bounds = if prefixed || preserves b.cfg then bounds_of b else init_bounds }) cpu ≡ processor_of cpu b'
+branched_as cpu b b' prefixed e f k =
+    λ j. record { regs = slice_index cpu.regs; flags = (processor_of cpu b').flags; rip = cpu.rip; bounds = sym e j; preserve = preserves (sym f j); status = sym k j }
+
+-- ---- MPX instructions
+
+abbrev pub WalkEnds : Outcome Tabled Refusal → mpx.Beside → (ℕ → ℕ) → ℕ → BndRegs → Paged → ℕ → Result (Unit {0}) BndStop → Type 0
+WalkEnds e bs regs next b m made (Ok done) = e ≡ Done (at_next (mpx.seen bs regs b) next) (tabled_of m made)
+WalkEnds e bs regs next b m made (Err (bnd.Violation value lb ub)) = e ≡ Failed (Violates value record { lb = lb; ub = ub }) (mpx.seen bs regs b) (tabled_of m made)
+WalkEnds e bs regs next b m made (Err (bnd.Invalid entry)) = e ≡ Refused (Invalid entry) (mpx.seen bs regs b) (tabled_of m made)
+WalkEnds e bs regs next b m made (Err (bnd.Stop (mem.Unmapped a))) = e ≡ Refused (Misses a) (mpx.seen bs regs b) (tabled_of m made)
+WalkEnds e bs regs next b m made (Err (bnd.Stop (mem.NoFrames in_use capacity))) = LacksFrames m in_use capacity
+
+walk_ends : (e : Outcome Tabled Refusal) (bs : mpx.Beside) (regs : ℕ → ℕ) (next : ℕ) (b : BndRegs) (m : Paged) (made : ℕ) (r : Result (Unit {0}) BndStop)
+    → SameWalked made (mpx.outcome_of bs regs next b m r) e → FewInWalk (mpx.outcome_of bs regs next b m r) → WalkEnds e bs regs next b m made r
+walk_ends e bs regs next b m made (Ok done) h few = h
+walk_ends e bs regs next b m made (Err (bnd.Violation value lb ub)) h few = h
+walk_ends e bs regs next b m made (Err (bnd.Invalid entry)) h few = h
+walk_ends e bs regs next b m made (Err (bnd.Stop (mem.Unmapped a))) h few = h
+walk_ends e bs regs next b m made (Err (bnd.Stop (mem.NoFrames in_use capacity))) h few = lacks m in_use capacity few
+
+pub walk_executes : (i : Instr) (next made : ℕ) (bs : mpx.Beside) (regs : ℕ → ℕ) (b b' : BndRegs) (m m' : Paged) (r : Result (Unit {0}) BndStop)
+    → mpx.Does bs regs next b m (row i next (mpx.seen bs regs b)) b' m' r
+    → WalkEnds (run (tabled_store b.cfg) (mpx.seen bs regs b) (row i next (mpx.seen bs regs b)) (tabled_of m made)) bs regs next b' m' made r
+walk_executes i next made bs regs b b' m m' r h =
+    walk_ends _ bs regs next b' m' made r
+    (subst (λ (o : Outcome mpx.Framed Walk). SameWalked made o (run (tabled_store b.cfg) (mpx.seen bs regs b) (row i next (mpx.seen bs regs b)) (tabled_of m made))) h
+    (walked_tabled b.cfg made (mpx.seen bs regs b) (BoundsAfter i (mpx.seen bs regs b)) (row i next (mpx.seen bs regs b)) (mpx.framed_of m) (tidy_row i next (mpx.seen bs regs b))))
+    (subst FewInWalk h (walked_few b.cfg (mpx.seen bs regs b) (BoundsAfter i (mpx.seen bs regs b)) (row i next (mpx.seen bs regs b)) (mpx.framed_of m) (tidy_row i next (mpx.seen bs regs b))))
+
+-- an entry that names no table is one of the directory
+pub entry_of : (i : Instr) (next made entry : ℕ) (bs : mpx.Beside) (regs : ℕ → ℕ) (b b' : BndRegs) (m m' : Paged)
+    → mpx.Does bs regs next b m (row i next (mpx.seen bs regs b)) b' m' (Err (bnd.Invalid entry)) → IsOfDirectory b.cfg entry
+entry_of i next made entry bs regs b b' m m' h =
+    subst (NamesEntry b.cfg) (walk_executes i next made bs regs b b' m m' (Err (bnd.Invalid entry)) h) (names_entry b.cfg (mpx.seen bs regs b) (row i next (mpx.seen bs regs b)) (tabled_of m made))
+
+-- done once: what is left as a stop
+pub once_halts : (g : Ground Tabled) (i : Instr) (next : ℕ) (s : State Tabled) (bs : mpx.Beside) (regs : ℕ → ℕ) (b : BndRegs) (m : Paged) (made from : ℕ) (why : BndStop) → s.processor.rip ≡ from
+    → WalkEnds (run g.store s.processor (row i next s.processor) s.memory) bs regs next b m made (Err why)
+    → HaltsIn (once g i next s) (record s { processor = mpx.seen bs regs b; memory = tabled_of m made }) m (bounds_stop from why)
+once_halts g i next s bs regs b m made from (bnd.Violation value lb ub) e h = ap (ended s) h ∙ (λ j. Halts (stop.Bounds (record { value = value; lb = lb; ub = ub; rip = e j })) (record s { processor = mpx.seen bs regs b; memory = tabled_of m made }))
+once_halts g i next s bs regs b m made from (bnd.Invalid entry) e h = ap (ended s) h
+once_halts g i next s bs regs b m made from (bnd.Stop (mem.Unmapped a)) e h = ap (ended s) h
+once_halts g i next s bs regs b m made from (bnd.Stop (mem.NoFrames in_use capacity)) e h = h
