@@ -1,7 +1,11 @@
 -- What a step of the processor makes of a state, from what its row does over frames.
-use Rattle.std.proofs.Common.{◌≡◌, ◌∙◌, ℕ, ◌<◌, Bool, true, false, List, refl, sym, ap, subst, slice_index, ◌||◌, IsTrue}
+use Rattle.std.proofs.Common.{◌≡◌, ◌∙◌, ℕ, ◌<◌, ◌+◌, arith, Bool, true, false, List, refl, sym, ap, subst, slice_index, ◌||◌, IsTrue}
 use Rattle.std.specs.Prelude.{Option, Some, None, Result, Ok, Err, if◌then◌else◌}
+use Rattle.std.specs.Option.{option_map}
+use Rattle.std.proofs.lemmas.Bool.Decides.{nat_tests}
 use Rattle.mx_base.specs.declared.limits.Bounds.{Bounds}
+use Rattle.mx_base.specs.Memory.{Bytes}
+use Rattle.mx_base.specs.Walk.{directory_base, directory_entry_at, with_next_table}
 use Rattle.mx_base.specs.declared.stops.Stop.{Stop}
 use Rattle.mx_base.specs.declared.stops.Stop.TheVariants as stop
 use Rattle.mx_base.specs.Services.{Guest}
@@ -10,6 +14,8 @@ use Rattle.paged_memory.specs.declared.stops.MemStop.TheVariants as mem
 use Rattle.paged_memory.specs.Paged.{Paged, bytes_of, touched_of}
 use Rattle.paged_memory.specs.Answers.{IsShort}
 use Rattle.bound_tables.specs.declared.walks.Walk.{Walk}
+use Rattle.bound_tables.specs.Walks.{is_configuration}
+use Rattle.br_runtime.specs.Serving.{is_directory_entry, named_entry}
 use Rattle.bound_tables.specs.declared.walks.Walk.TheVariants as walks
 use Rattle.x86_forms.specs.declared.instr.Instr.{Instr}
 use Rattle.x86_forms.specs.Processor.{Processor}
@@ -30,7 +36,7 @@ use Rattle.mpx_core.specs.Registers.{bounds_of, preserves}
 use Rattle.mpx_core.specs.Steps as mpx
 use Rattle.obj_file.specs.Machine.{Refusal, Misses, Invalid, Ground, State, Deed, Does, Halts, ended, restarted, served_or_ended, executed}
 use Rattle.obj_file.specs.Loaded.{Tabled, tabled_store, table_made}
-use Rattle.mx_run.specs.Parts.{ground, processor_of, tabled_of, core_stop, memory_stop, bounds_stop, once, LacksFrames, HaltsIn}
+use Rattle.mx_run.specs.Parts.{ground, processor_of, tabled_of, core_stop, memory_stop, bounds_stop, once, LacksFrames, HaltsIn, MakesTable}
 use Rattle.mx_run.proofs.PlainRows.{branches, jumps, plain_row}
 use Rattle.mx_run.proofs.Frames.{tabled, SameTabled, plain_tabled, walk_tabled, SameWalked, walked_tabled, FewFrames, FewIn, plain_few, FewInWalk, walked_few, IsOfDirectory, NamesEntry, names_entry}
 
@@ -127,3 +133,67 @@ once_halts g i next s bs regs b m made from (bnd.Violation value lb ub) e h = ap
 once_halts g i next s bs regs b m made from (bnd.Invalid entry) e h = ap (ended s) h
 once_halts g i next s bs regs b m made from (bnd.Stop (mem.Unmapped a)) e h = ap (ended s) h
 once_halts g i next s bs regs b m made from (bnd.Stop (mem.NoFrames in_use capacity)) e h = h
+
+pub walk_halts : (cfg outers : ℕ) (bare : Bool) (i : Instr) (next made : ℕ) (guest : Guest) (steps : ℕ) (bs : mpx.Beside) (regs : ℕ → ℕ) (b b' : BndRegs) (m m' : Paged) (why : MemStop)
+    → WalkEnds (run (tabled_store cfg) (mpx.seen bs regs b) (row i next (mpx.seen bs regs b)) (tabled_of m made)) bs regs next b' m' made (Err (bnd.Stop why))
+    → HaltsIn (executed (ground cfg outers bare) i next (state_with (mpx.seen bs regs b) (tabled_of m made) guest steps)) (state_with (mpx.seen bs regs b') (tabled_of m' made) guest steps) m' (memory_stop why)
+walk_halts cfg outers bare i next made guest steps bs regs b b' m m' (mem.Unmapped a) h = executed_as cfg outers bare i next made guest steps _ _ _ h
+walk_halts cfg outers bare i next made guest steps bs regs b b' m m' (mem.NoFrames in_use capacity) h = h
+
+-- ---- a table that is made
+
+-- the end of an instruction depends on little of the state before it
+pub ended_same : (c d : Processor) (x y : Tabled) (guest : Guest) (steps : ℕ) (o : Outcome Tabled Refusal) → c.rip ≡ d.rip → ended (state_with c x guest steps) o ≡ ended (state_with d y guest steps) o
+ended_same c d x y guest steps (Done p z) e = refl
+ended_same c d x y guest steps (Failed Divides p z) e = refl
+ended_same c d x y guest steps (Failed Undefines p z) e = λ j. Halts (stop.Undefined (e j)) (state_with p z guest steps)
+ended_same c d x y guest steps (Failed (Violates value b) p z) e = λ j. Halts (stop.Bounds (record { value = value; lb = b.lb; ub = b.ub; rip = e j })) (state_with p z guest steps)
+ended_same c d x y guest steps (Refused o p z) e = refl
+
+pub made_halts : (g : Ground Tabled) (i : Instr) (next : ℕ) (s : State Tabled) (p : Processor) (x y : Tabled) (entry : ℕ) (m : Paged) (why : Stop) → MakesTable entry x y m (Some why)
+    → HaltsIn (restarted g i next s p x (table_made x entry)) (record s { processor = p; memory = y }) m why
+made_halts g i next s p x y entry m stop.NoTable h = ap (restarted g i next s p x) h.0 ∙ ap (λ (z : Tabled). Halts stop.NoTable (record s { processor = p; memory = z })) (sym h.1)
+made_halts g i next s p x y entry m (stop.NoFrames in_use capacity) h = h
+made_halts g i next s p x y entry m (stop.Exit code) h = absurd h
+made_halts g i next s p x y entry m (stop.Bounds b) h = absurd h
+made_halts g i next s p x y entry m (stop.Unmapped a) h = absurd h
+made_halts g i next s p x y entry m stop.Divide h = absurd h
+made_halts g i next s p x y entry m (stop.Undefined a) h = absurd h
+made_halts g i next s p x y entry m stop.StackOver h = absurd h
+made_halts g i next s p x y entry m stop.OutOfTurns h = absurd h
+made_halts g i next s p x y entry m (stop.Strayed a) h = absurd h
+made_halts g i next s p x y entry m stop.ReadFault h = absurd h
+made_halts g i next s p x y entry m stop.WriteFault h = absurd h
+
+-- ---- the directory
+
+base_is : (cfg : ℕ) → is_configuration cfg ≡ true → directory_base cfg ≡ 0x4000_0000_0000
+base_is cfg h = grind (arith, nat_tests)
+
+directory_at : (cfg la : ℕ) → is_configuration cfg ≡ true → is_directory_entry (directory_entry_at cfg la) ≡ true
+unfolding directory_entry_at
+directory_at cfg la h = let base = base_is cfg h in grind (arith, nat_tests, base)
+
+pub of_directory : (cfg entry : ℕ) → is_configuration cfg ≡ true → IsOfDirectory cfg entry → IsTrue (is_directory_entry entry)
+of_directory cfg entry h is = ap is_directory_entry is.1 ∙ directory_at cfg is.0 h
+
+pub named_again : (entry : ℕ) → is_directory_entry entry ≡ true → named_entry (entry + 2) ≡ entry
+named_again entry h = grind (arith, nat_tests)
+
+-- the table that the runtime made
+pub table_is_made : (m m' : Paged) (entry entry' made made' : ℕ) → entry' ≡ entry → made' ≡ made + 1 → with_next_table (bytes_of m) entry' made ≡ Some (bytes_of m') → table_made (tabled_of m made) entry ≡ Some (tabled_of m' made')
+unfolding table_made
+table_is_made m m' entry entry' made made' e f h =
+    ap (λ n. option_map (λ bytes. record { bytes = bytes; made = made + 1 }) (with_next_table (bytes_of m) n made)) (sym e)
+    ∙ ap (option_map (λ (bytes : Bytes). let t : Tabled = record { bytes = bytes; made = made + 1 } in t)) h ∙ ap (λ n. Some (tabled_of m' n)) (sym f)
+
+pub no_table_is_made : (m : Paged) (entry entry' made : ℕ) → entry' ≡ entry → with_next_table (bytes_of m) entry' made ≡ None → table_made (tabled_of m made) entry ≡ None
+unfolding table_made
+no_table_is_made m entry entry' made e h =
+    ap (λ n. option_map (λ bytes. record { bytes = bytes; made = made + 1 }) (with_next_table (bytes_of m) n made)) (sym e)
+    ∙ ap (option_map (λ (bytes : Bytes). let t : Tabled = record { bytes = bytes; made = made + 1 } in t)) h
+
+-- a step's answer by what it is
+pub does_as : (bs : mpx.Beside) (regs : ℕ → ℕ) (next : ℕ) (b b' : BndRegs) (m m' : Paged) (i : Instr) (r r' : Result (Unit {0}) BndStop) → r ≡ r'
+    → mpx.Does bs regs next b m (row i next (mpx.seen bs regs b)) b' m' r → mpx.Does bs regs next b m (row i next (mpx.seen bs regs b)) b' m' r'
+does_as bs regs next b b' m m' i r r' e h = subst (λ (r : Result (Unit {0}) BndStop). mpx.Does bs regs next b m (row i next (mpx.seen bs regs b)) b' m' r) e h

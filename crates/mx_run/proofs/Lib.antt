@@ -1,3 +1,9 @@
 pub mod PlainRows
 pub mod Frames
 pub mod Execution
+pub mod Services
+pub mod Doing
+pub mod Growth
+pub mod Back
+pub mod Advance
+pub mod ReaderLaws

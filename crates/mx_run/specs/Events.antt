@@ -61,6 +61,11 @@ write_strays bare from number rdi rsi rdx =
 
 -- ---- an instruction
 
+-- the state that a deed leaves
+abbrev pub left_of : Deed Tabled → State Tabled
+left_of (Does t) = t
+left_of (Halts why t) = t
+
 -- nothing was put
 abbrev pub PutsNothing : Option (List ℕ) → Option (List ℕ) → Type 0
 PutsNothing held held' = Adds held held' []
@@ -70,7 +75,7 @@ abbrev pub Acts : Deed Tabled → Option (List ℕ) → List ℕ → Around → 
 Acts d held so_far new None = (t : State Tabled) × (d ≡ Does t) × IsNow held so_far new t
 Acts d held so_far new (Some (stop.NoFrames in_use capacity)) = PutsNothing held new.held
 Acts d held so_far new (Some stop.ReadFault) = PutsNothing held new.held
-Acts d held so_far new (Some stop.WriteFault) = (t : State Tabled) × (d ≡ Does t) × IsCut held so_far new.held t.guest.out
+Acts d held so_far new (Some stop.WriteFault) = IsCut held so_far new.held (left_of d).guest.out
 Acts d held so_far new (Some stop.OutOfTurns) = ⊥
 Acts d held so_far new (Some why) = (t : State Tabled) × (d ≡ Halts why t) × IsNow held so_far new t
 
@@ -88,10 +93,10 @@ Ends e held so_far new stop.ReadFault = IsCut held so_far new.held (out_of e)
 Ends e held so_far new stop.WriteFault = IsCut held so_far new.held (out_of e)
 Ends e held so_far new why = (t : State Tabled) × (e ≡ Stopped why t) × IsNow held so_far new t
 
--- an event leads to the rest of the run, or it ends it
-abbrev pub Moves : Ground Tabled → ℕ → State Tabled → Option (List ℕ) → List ℕ → ℕ → Around → Option Stop → Type 0
-Moves g turns s held so_far left new None = (t : State Tabled) × (run_of g turns s ≡ run_of g left t) × IsNow held so_far new t
-Moves g turns s held so_far left new (Some why) = Ends (run_of g turns s) held so_far new why
+-- a run goes on from the state now, or it ends
+abbrev pub Moves : End Tabled → Ground Tabled → Option (List ℕ) → List ℕ → ℕ → Around → Option Stop → Type 0
+Moves e g held so_far left new None = (t : State Tabled) × (e ≡ run_of g left t) × IsNow held so_far new t
+Moves e g held so_far left new (Some why) = Ends e held so_far new why
 
 -- turns left and code ahead, in one number
 abbrev pub ahead : ℕ → ℕ → ℕ
@@ -100,6 +105,24 @@ ahead turns rip = turns * 0x1100_0001 + (0x1100_0000 - rip)
 abbrev pub Falls : ℕ → ℕ → ℕ → ℕ → Option Stop → Type 0
 Falls turns rip left rip' None = ahead left rip' < ahead turns rip
 Falls turns rip left rip' (Some why) = Unit {0}
+
+-- a turn was taken where one is due
+abbrev pub TakesTurn : Bool → ℕ → ℕ → Bool → Type 0
+TakesTurn true turns left true = turns ≡ left + 1
+TakesTurn true turns left false = (turns ≡ 0) × (left ≡ 0)
+TakesTurn false turns left true = left ≡ turns
+TakesTurn false turns left false = ⊥
+
+-- whether a turn that is owed is left
+abbrev pub IsLeft : Bool → ℕ → Bool → Type 0
+IsLeft owed turns true = owed ≡ true → 0 < turns
+IsLeft owed turns false = (owed ≡ true) × (turns ≡ 0)
+
+-- how a fetch or a reading stops
+abbrev pub IsLost : Stop → Type 0
+IsLost (stop.Unmapped a) = Unit {0}
+IsLost (stop.Undefined a) = Unit {0}
+IsLost why = ⊥
 
 -- ---- faults
 

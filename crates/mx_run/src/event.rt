@@ -1,12 +1,96 @@
 //! One event of the machine, and events one after another.
+ghost use Rattle.std.specs.Prelude.{◌≡◌, ℕ, ◌+◌, ◌%◌, ◌^◌, ◌<◌, ◌≤◌, ◌||◌, nat_le, List, Some, IsTrue, true};
+ghost use Rattle.x86_forms.specs.Validity.{valid_of};
+ghost use Rattle.x86_forms.specs.Watch.{is_legacy};
+ghost use Rattle.obj_file.specs.Machine.{is_call, is_return, deed_of, event_of};
+ghost use Rattle.obj_file.specs.Runs.{after, run_of};
+ghost use Rattle.mx_run.specs.Parts.{ground, state_of};
+ghost use Rattle.mx_run.specs.Events.{Moves, Falls, Ends, TakesTurn, IsLeft, CountsReads, CountsWrites, FindsFew};
+
 use crate::acting::{act, calls, returns};
 use crate::finding::find;
 use crate::parts::{Doors, Parts};
 use mx_base::{Sink, Source, Stop};
+use x86_forms::Instr;
 
-/// Whether the code at an address is instrumented.
-fn is_instrumented(a: u64) -> bool {
-    0x0100_0000 <= a && a < 0x1100_0000
+/// Whether the code at an address is legacy.
+fn is_of_legacy(a: u64) -> bool
+    ensures { result ≡ is_legacy a }
+{
+    a < 0x0100_0000 || 0x1100_0000 <= a
+}
+
+/// Whether an instruction takes a turn whatever it leads to.
+fn owes(legacy: bool, i: &Instr) -> bool
+    ensures { result ≡ (legacy || (is_call i.now || is_return i.now)) }
+{
+    legacy || calls(i) || returns(i)
+}
+
+/// Whether an instruction takes a turn that leads from one address to another.
+fn is_due(owed: bool, to: u64, from: u64) -> bool
+    ensures { result ≡ (owed || nat_le to from) }
+{
+    owed || to <= from
+}
+
+/// Whether a turn that is owed is left.
+fn is_left(owed: bool, turns: u64) -> bool
+    ensures { IsLeft owed turns result }
+{
+    !owed || turns > 0
+}
+
+/// Takes a turn if one is due. False where none is left.
+fn take_turn(turns: &mut u64, due: bool) -> bool
+    ensures { TakesTurn due turns.old turns.new result }
+{
+    if !due {
+        return true;
+    }
+    if *turns == 0 {
+        return false;
+    }
+    *turns -= 1;
+    true
+}
+
+/// The event of an instruction that was found, where the turn that it owes whatever it leads to is left. An instruction that leads
+/// back without a turn left is taken back.
+fn advance<I: Source, O: Sink>(
+    p: &mut Parts,
+    doors: Doors,
+    i: &Instr,
+    len: u8,
+    owed: bool,
+    turns: &mut u64,
+    input: &mut I,
+    out: &mut O,
+) -> Option<Stop>
+    requires valid { IsTrue (valid_of i.now) }
+    requires some { 1 ≤ len }
+    requires short { len ≤ 15 }
+    requires owed { owed ≡ (is_legacy p.old.cpu.rip || (is_call i.now || is_return i.now)) }
+    requires left { owed ≡ true → 0 < turns.old }
+    ensures moves { (bytes so_far : List ℕ) → I.left input.old ≡ Some bytes → Moves (after (run_of (ground p.old.bnd.cfg doors.outers doors.bare)) turns.old (state_of p.old bytes so_far) (event_of (state_of p.old bytes so_far) (is_call i.now || is_return i.now) (deed_of (ground p.old.bnd.cfg doors.outers doors.bare) i.now ((p.old.cpu.rip + len) % 2 ^ 64) (state_of p.old bytes so_far)))) (ground p.old.bnd.cfg doors.outers doors.bare) (O.held out.old) so_far turns.new record { parts = p.new; left = I.left input.new; held = O.held out.new } result }
+    ensures falls { Falls turns.old p.old.cpu.rip turns.new p.new.cpu.rip result }
+    ensures reads { CountsReads result (I.faults input.old) (I.faults input.new) }
+    ensures writes { CountsWrites result (O.faults out.old) (O.faults out.new) }
+    ensures few { FindsFew p.new.memory result }
+    ensures cfg { p.new.bnd.cfg ≡ p.old.bnd.cfg }
+{
+    let before = p.cpu;
+    let bounds = p.bnd;
+    if let Some(stop) = act(p, doors, i, len, input, out) {
+        return Some(stop);
+    }
+    if !take_turn(turns, is_due(owed, p.cpu.rip, before.rip)) {
+        p.cpu = before;
+        p.bnd = bounds;
+        return Some(Stop::OutOfTurns);
+    }
+    p.steps = p.steps.saturating_add(1);
+    None
 }
 
 /// One event, if the turn that it takes is left.
@@ -16,34 +100,27 @@ fn event<I: Source, O: Sink>(
     turns: &mut u64,
     input: &mut I,
     out: &mut O,
-) -> Option<Stop> {
-    let before = p.cpu;
-    let bounds = p.bnd;
-    let legacy = !is_instrumented(before.rip);
-    if legacy && *turns == 0 {
+) -> Option<Stop>
+    ensures moves { (bytes so_far : List ℕ) → I.left input.old ≡ Some bytes → Moves (run_of (ground p.old.bnd.cfg doors.outers doors.bare) turns.old (state_of p.old bytes so_far)) (ground p.old.bnd.cfg doors.outers doors.bare) (O.held out.old) so_far turns.new record { parts = p.new; left = I.left input.new; held = O.held out.new } result }
+    ensures falls { Falls turns.old p.old.cpu.rip turns.new p.new.cpu.rip result }
+    ensures reads { CountsReads result (I.faults input.old) (I.faults input.new) }
+    ensures writes { CountsWrites result (O.faults out.old) (O.faults out.new) }
+    ensures few { FindsFew p.new.memory result }
+    ensures cfg { p.new.bnd.cfg ≡ p.old.bnd.cfg }
+{
+    let legacy = is_of_legacy(p.cpu.rip);
+    if !is_left(legacy, *turns) {
         return Some(Stop::OutOfTurns);
     }
-    let (i, len) = match find(&p.memory, before.rip) {
+    let (i, len) = match find(&p.memory, p.cpu.rip) {
         Ok(found) => found,
         Err(stop) => return Some(stop),
     };
-    let owed = legacy || calls(&i) || returns(&i);
-    if owed && *turns == 0 {
+    let owed = owes(legacy, &i);
+    if !is_left(owed, *turns) {
         return Some(Stop::OutOfTurns);
     }
-    if let Some(stop) = act(p, doors, &i, len, input, out) {
-        return Some(stop);
-    }
-    if owed || p.cpu.rip <= before.rip {
-        if *turns == 0 {
-            p.cpu = before;
-            p.bnd = bounds;
-            return Some(Stop::OutOfTurns);
-        }
-        *turns -= 1;
-    }
-    p.steps = p.steps.saturating_add(1);
-    None
+    advance(p, doors, &i, len, owed, turns, input, out)
 }
 
 /// Events one after another, to the stop.
@@ -53,7 +130,13 @@ pub fn run_events<I: Source, O: Sink>(
     turns: u64,
     input: &mut I,
     out: &mut O,
-) -> Stop {
+) -> Stop
+    ensures ends { (bytes so_far : List ℕ) → I.left input.old ≡ Some bytes → Ends (run_of (ground p.old.bnd.cfg doors.outers doors.bare) turns (state_of p.old bytes so_far)) (O.held out.old) so_far record { parts = p.new; left = I.left input.new; held = O.held out.new } result }
+    ensures reads { CountsReads (Some result) (I.faults input.old) (I.faults input.new) }
+    ensures writes { CountsWrites (Some result) (O.faults out.old) (O.faults out.new) }
+    ensures few { FindsFew p.new.memory (Some result) }
+    ensures cfg { p.new.bnd.cfg ≡ p.old.bnd.cfg }
+{
     let mut left = turns;
     loop {
         if let Some(stop) = event(p, doors, &mut left, input, out) {

@@ -1,9 +1,10 @@
 //! The service of a `syscall`.
 ghost use Rattle.std.specs.Prelude.{◌≡◌, ℕ, List, Some, IfSome, slice_index};
 ghost use Rattle.mx_base.specs.Services.{service_of, served};
-ghost use Rattle.paged_memory.specs.Paged.{bytes_of};
+ghost use Rattle.paged_memory.specs.Paged.{Paged, bytes_of};
+ghost use Rattle.x86_forms.specs.Processor.{rax, with_part};
 ghost use Rattle.obj_file.specs.Machine.{bytes_judged};
-ghost use Rattle.mx_run.specs.Events.{Serves, CountsReads, CountsWrites, write_strays as strays_at};
+ghost use Rattle.mx_run.specs.Events.{Serves, CountsReads, CountsWrites, FindsFew, write_strays as strays_at};
 
 use crate::parts::Parts;
 use crate::watch::span_strays;
@@ -27,6 +28,14 @@ fn write_strays(bare: bool, from: u64, number: u64, args: [u64; 3]) -> Option<u6
     span_strays(&Instr::Syscall, from, Some(bytes))
 }
 
+/// Answers in rax.
+#[tactic(auto, unfolding(x86_forms::specs::Processor::part_written))]
+fn answer(regs: &mut [u64; 16], word: u64)
+    ensures { slice_index regs.new ≡ with_part 64 (slice_index regs.old) rax word }
+{
+    regs[0] = word;
+}
+
 /// Does the service that the registers name. A stop leaves the parts.
 pub fn serve_guest<I: Source, O: Sink>(
     p: &mut Parts,
@@ -39,6 +48,7 @@ pub fn serve_guest<I: Source, O: Sink>(
     ensures reads { CountsReads result (I.faults input.old) (I.faults input.new) }
     ensures writes { CountsWrites result (O.faults out.old) (O.faults out.new) }
     ensures kept { IfSome result (λ e. p.new ≡ p.old) }
+    ensures few { (m : Paged) → FindsFew m result }
     ensures cfg { p.new.bnd.cfg ≡ p.old.bnd.cfg }
 {
     let number = p.cpu.regs[0];
@@ -48,7 +58,7 @@ pub fn serve_guest<I: Source, O: Sink>(
     }
     match call(&mut p.heap, &p.memory, number, args, input, out) {
         Served::Value(word) => {
-            p.cpu.regs[0] = word;
+            answer(&mut p.cpu.regs, word);
             None
         }
         Served::Exit(code) => Some(Stop::Exit(code)),

@@ -1,32 +1,47 @@
-use Rattle.std.proofs.Common.{rules, ◌≡◌, ◌≤◌, ◌+◌, ◌%◌, ◌^◌, IsTrue, ℕ, Bool, List, ◌-◌, ◌*◌, ◌<◌, length, ◌/◌, true, false, nat_eq, nat_lt, [], ◌∷◌, ◌++◌, slice_index_or, slice_set, bit_and, bit_or, Fits, w8, w32, w64, Bor, MutBor}
-use Rattle.x86_forms.specs.Validity.{valid_of}
-use Rattle.x86_core.specs.Steps.{is_plain}
-use Rattle.mpx_core.specs.Steps.{is_bounds}
-use Rattle.br_runtime.specs.Serving.{is_directory_entry}
-use Rattle.obj_file.specs.Machine.{executed}
-use Rattle.mx_run.specs.Parts.{ground, state_of, tabled_of, core_stop, memory_stop, bounds_stop, once, MakesTable, Executes}
+use Rattle.std.proofs.Common.{◌≡◌, ◌∙◌, ℕ, ◌+◌, ◌%◌, ◌^◌, ◌<◌, ◌≤◌, Bool, true, false, List, refl, sym, ap, subst, slice_index, IsTrue, arith}
+use Rattle.std.specs.Prelude.{Ok, Err}
+use Rattle.mx_base.specs.declared.stops.Stop.{Stop}
+use Rattle.x86_alu.specs.Alu.{flags_in}
+use Rattle.x86_forms.specs.Requests.{run}
+use Rattle.x86_forms.specs.Table.{row}
+use Rattle.mpx_core.specs.declared.registers.BndStop.TheVariants as bnd
+use Rattle.obj_file.specs.Machine.{Deed, ended, restarted, executed}
+use Rattle.obj_file.specs.Loaded.{Tabled, tabled_store}
+use Rattle.mx_run.specs.Parts.{ground, state_of, processor_of, tabled_of, HaltsIn, Executes}
+use Rattle.mx_run.proofs.Execution.{state_with, walk_executes, walk_halts, executed_as, ended_same, made_halts, entry_of, of_directory, does_as}
 use Rattle.mx_run.proofs.executing.execute_bounds.Goals as goal
 
--- src/executing.rt:116:19
 pub make_table-requires-clause-entry : goal.make_table-requires-clause-entry
-make_table-requires-clause-entry c = ?
+make_table-requires-clause-entry c =
+    of_directory c.args.p.now.bnd.cfg c.in-Err-Invalid.entry c.args.p.now.configured
+    (entry_of c.args.i.now c.args.next c.args.p.now.tables.made c.in-Err-Invalid.entry (record { flags = flags_in c.args.p.now.cpu.flags; rip = c.args.p.now.cpu.rip }) (slice_index c.args.p.now.cpu.regs) c.args.p.now.bnd c.step.new.b c.args.p.now.memory c.step.new.m (does_as (record { flags = flags_in c.args.p.now.cpu.flags; rip = c.args.p.now.cpu.rip }) (slice_index c.args.p.now.cpu.regs) c.args.next c.args.p.now.bnd c.step.new.b c.args.p.now.memory c.step.new.m c.args.i.now c.step.result (Err (bnd.Invalid c.in-Err-Invalid.entry)) (c.in-Err-Invalid.is ∙ ap Err c.in-Err-Invalid.field-0-is) (c.step.ensures.row (record { flags = flags_in c.args.p.now.cpu.flags; rip = c.args.p.now.cpu.rip }))))
 
--- src/executing.rt:104:1
 pub returns-in-Ok-clause-does : goal.returns-in-Ok-clause-does
-returns-in-Ok-clause-does c = ?
+returns-in-Ok-clause-does c outers bare input out =
+    executed_as c.args.p.now.bnd.cfg outers bare c.args.i.now c.args.next c.args.p.now.tables.made (record { heap = c.args.p.now.heap; input = input; out = out }) c.args.p.now.steps _ _ _ (walk_executes c.args.i.now c.args.next c.args.p.now.tables.made (record { flags = flags_in c.args.p.now.cpu.flags; rip = c.args.p.now.cpu.rip }) (slice_index c.args.p.now.cpu.regs) c.args.p.now.bnd c.step.new.b c.args.p.now.memory c.step.new.m (Ok c.in-Ok.field-0) (c.in-Ok.ensures.row (record { flags = flags_in c.args.p.now.cpu.flags; rip = c.args.p.now.cpu.rip })))
 
--- src/executing.rt:104:1
-pub returns-in-None-clause-does : goal.returns-in-None-clause-does
-returns-in-None-clause-does c = ?
-
--- src/executing.rt:104:1
-pub returns-in-Some-clause-does : goal.returns-in-Some-clause-does
-returns-in-Some-clause-does c = ?
-
--- src/executing.rt:104:1
 pub returns-in-Err-Violation-clause-does : goal.returns-in-Err-Violation-clause-does
-returns-in-Err-Violation-clause-does c = ?
+returns-in-Err-Violation-clause-does c outers bare input out =
+    executed_as c.args.p.now.bnd.cfg outers bare c.args.i.now c.args.next c.args.p.now.tables.made (record { heap = c.args.p.now.heap; input = input; out = out }) c.args.p.now.steps _ _ _ (walk_executes c.args.i.now c.args.next c.args.p.now.tables.made (record { flags = flags_in c.args.p.now.cpu.flags; rip = c.args.p.now.cpu.rip }) (slice_index c.args.p.now.cpu.regs) c.args.p.now.bnd c.step.new.b c.args.p.now.memory c.step.new.m (Err (bnd.Violation c.in-Err-Violation.value c.in-Err-Violation.lb c.in-Err-Violation.ub)) (does_as (record { flags = flags_in c.args.p.now.cpu.flags; rip = c.args.p.now.cpu.rip }) (slice_index c.args.p.now.cpu.regs) c.args.next c.args.p.now.bnd c.step.new.b c.args.p.now.memory c.step.new.m c.args.i.now c.step.result (Err (bnd.Violation c.in-Err-Violation.value c.in-Err-Violation.lb c.in-Err-Violation.ub)) (c.in-Err-Violation.is ∙ ap Err c.in-Err-Violation.field-0-is) (c.step.ensures.row (record { flags = flags_in c.args.p.now.cpu.flags; rip = c.args.p.now.cpu.rip }))))
 
--- src/executing.rt:104:1
 pub returns-in-Err-Stop-clause-does : goal.returns-in-Err-Stop-clause-does
-returns-in-Err-Stop-clause-does c = ?
+returns-in-Err-Stop-clause-does c outers bare input out =
+    subst (λ (why : Stop). HaltsIn (executed (ground c.args.p.now.bnd.cfg outers bare) c.args.i.now c.args.next (state_of c.args.p.now input out)) (state_with (processor_of c.args.p.now.cpu c.step.new.b) (tabled_of c.step.new.m c.args.p.now.tables.made) (record { heap = c.args.p.now.heap; input = input; out = out }) c.args.p.now.steps) c.step.new.m why)
+    (sym c.stop_of_memory.ensures)
+    (walk_halts c.args.p.now.bnd.cfg outers bare c.args.i.now c.args.next c.args.p.now.tables.made (record { heap = c.args.p.now.heap; input = input; out = out }) c.args.p.now.steps (record { flags = flags_in c.args.p.now.cpu.flags; rip = c.args.p.now.cpu.rip }) (slice_index c.args.p.now.cpu.regs) c.args.p.now.bnd c.step.new.b c.args.p.now.memory c.step.new.m c.in-Err-Stop.stop
+    (walk_executes c.args.i.now c.args.next c.args.p.now.tables.made (record { flags = flags_in c.args.p.now.cpu.flags; rip = c.args.p.now.cpu.rip }) (slice_index c.args.p.now.cpu.regs) c.args.p.now.bnd c.step.new.b c.args.p.now.memory c.step.new.m (Err (bnd.Stop c.in-Err-Stop.stop)) (does_as (record { flags = flags_in c.args.p.now.cpu.flags; rip = c.args.p.now.cpu.rip }) (slice_index c.args.p.now.cpu.regs) c.args.next c.args.p.now.bnd c.step.new.b c.args.p.now.memory c.step.new.m c.args.i.now c.step.result (Err (bnd.Stop c.in-Err-Stop.stop)) (c.in-Err-Stop.is ∙ ap Err c.in-Err-Stop.field-0-is) (c.step.ensures.row (record { flags = flags_in c.args.p.now.cpu.flags; rip = c.args.p.now.cpu.rip })))))
+
+pub returns-in-None-clause-does : goal.returns-in-None-clause-does
+returns-in-None-clause-does c outers bare input out =
+    subst (λ (d : Deed Tabled). Executes d c.execute_again.new.p input out c.execute_again.result)
+    (sym (executed_as c.args.p.now.bnd.cfg outers bare c.args.i.now c.args.next c.args.p.now.tables.made (record { heap = c.args.p.now.heap; input = input; out = out }) c.args.p.now.steps _ _ _ (walk_executes c.args.i.now c.args.next c.args.p.now.tables.made (record { flags = flags_in c.args.p.now.cpu.flags; rip = c.args.p.now.cpu.rip }) (slice_index c.args.p.now.cpu.regs) c.args.p.now.bnd c.step.new.b c.args.p.now.memory c.step.new.m (Err (bnd.Invalid c.in-Err-Invalid.entry)) (does_as (record { flags = flags_in c.args.p.now.cpu.flags; rip = c.args.p.now.cpu.rip }) (slice_index c.args.p.now.cpu.regs) c.args.next c.args.p.now.bnd c.step.new.b c.args.p.now.memory c.step.new.m c.args.i.now c.step.result (Err (bnd.Invalid c.in-Err-Invalid.entry)) (c.in-Err-Invalid.is ∙ ap Err c.in-Err-Invalid.field-0-is) (c.step.ensures.row (record { flags = flags_in c.args.p.now.cpu.flags; rip = c.args.p.now.cpu.rip }))))
+    ∙ ap (restarted (ground c.args.p.now.bnd.cfg outers bare) c.args.i.now c.args.next (state_of c.args.p.now input out) (processor_of c.args.p.now.cpu c.step.new.b) (tabled_of c.step.new.m c.args.p.now.tables.made)) c.in-None.ensures.makes
+    ∙ ended_same (processor_of c.args.p.now.cpu c.args.p.now.bnd) (processor_of c.args.p.now.cpu c.step.new.b) (tabled_of c.args.p.now.memory c.args.p.now.tables.made) (tabled_of c.make_table.new.m c.make_table.new.t.made) (record { heap = c.args.p.now.heap; input = input; out = out }) c.args.p.now.steps (run (tabled_store c.args.p.now.bnd.cfg) (processor_of c.args.p.now.cpu c.step.new.b) (row c.args.i.now c.args.next (processor_of c.args.p.now.cpu c.step.new.b)) (tabled_of c.make_table.new.m c.make_table.new.t.made)) refl
+    ∙ ap (λ cfg. ended (state_with (processor_of c.args.p.now.cpu c.step.new.b) (tabled_of c.make_table.new.m c.make_table.new.t.made) (record { heap = c.args.p.now.heap; input = input; out = out }) c.args.p.now.steps) (run (tabled_store cfg) (processor_of c.args.p.now.cpu c.step.new.b) (row c.args.i.now c.args.next (processor_of c.args.p.now.cpu c.step.new.b)) (tabled_of c.make_table.new.m c.make_table.new.t.made))) (sym c.step.ensures.cfg)))
+    (c.execute_again.ensures.does outers bare input out)
+
+pub returns-in-Some-clause-does : goal.returns-in-Some-clause-does
+returns-in-Some-clause-does c outers bare input out =
+    subst (λ (d : Deed Tabled). HaltsIn d (state_with (processor_of c.args.p.now.cpu c.step.new.b) (tabled_of c.make_table.new.m c.make_table.new.t.made) (record { heap = c.args.p.now.heap; input = input; out = out }) c.args.p.now.steps) c.make_table.new.m c.in-Some.stop)
+    (sym (executed_as c.args.p.now.bnd.cfg outers bare c.args.i.now c.args.next c.args.p.now.tables.made (record { heap = c.args.p.now.heap; input = input; out = out }) c.args.p.now.steps _ _ _ (walk_executes c.args.i.now c.args.next c.args.p.now.tables.made (record { flags = flags_in c.args.p.now.cpu.flags; rip = c.args.p.now.cpu.rip }) (slice_index c.args.p.now.cpu.regs) c.args.p.now.bnd c.step.new.b c.args.p.now.memory c.step.new.m (Err (bnd.Invalid c.in-Err-Invalid.entry)) (does_as (record { flags = flags_in c.args.p.now.cpu.flags; rip = c.args.p.now.cpu.rip }) (slice_index c.args.p.now.cpu.regs) c.args.next c.args.p.now.bnd c.step.new.b c.args.p.now.memory c.step.new.m c.args.i.now c.step.result (Err (bnd.Invalid c.in-Err-Invalid.entry)) (c.in-Err-Invalid.is ∙ ap Err c.in-Err-Invalid.field-0-is) (c.step.ensures.row (record { flags = flags_in c.args.p.now.cpu.flags; rip = c.args.p.now.cpu.rip }))))))
+    (made_halts (ground c.args.p.now.bnd.cfg outers bare) c.args.i.now c.args.next (state_of c.args.p.now input out) (processor_of c.args.p.now.cpu c.step.new.b) (tabled_of c.step.new.m c.args.p.now.tables.made) (tabled_of c.make_table.new.m c.make_table.new.t.made) c.in-Err-Invalid.entry c.make_table.new.m c.in-Some.stop c.in-Some.ensures.makes)

@@ -1,16 +1,17 @@
-use Rattle.std.proofs.Common.{rules, ◌≡◌, ◌≤◌, ◌+◌, ◌%◌, ◌^◌, IsTrue, ℕ, Bool, List, ◌-◌, ◌*◌, ◌<◌, length, ◌/◌, true, false, nat_eq, nat_lt, [], ◌∷◌, ◌++◌, slice_index_or, slice_set, bit_and, bit_or, Fits, w8, w32, w64, Bor, MutBor}
-use Rattle.x86_forms.specs.Validity.{valid_of}
-use Rattle.x86_core.specs.Steps.{is_plain}
-use Rattle.mpx_core.specs.Steps.{is_bounds}
-use Rattle.br_runtime.specs.Serving.{is_directory_entry}
-use Rattle.obj_file.specs.Machine.{executed}
-use Rattle.mx_run.specs.Parts.{ground, state_of, tabled_of, core_stop, memory_stop, bounds_stop, once, MakesTable, Executes}
+use Rattle.std.proofs.Common.{◌≡◌, ◌∙◌, ℕ, ◌+◌, ◌%◌, ◌^◌, ◌<◌, ◌≤◌, Bool, true, false, List, refl, sym, ap, subst, slice_index, IsTrue, arith}
+use Rattle.br_runtime.specs.Serving.{named_entry}
+use Rattle.mx_run.specs.Parts.{tabled_of}
+use Rattle.mx_run.proofs.Execution.{table_is_made, no_table_is_made, named_again}
 use Rattle.mx_run.proofs.executing.make_table.Goals as goal
 
--- src/executing.rt:73:1
 pub returns-in-Ok-clause-makes : goal.returns-in-Ok-clause-makes
-returns-in-Ok-clause-makes c = ?
+returns-in-Ok-clause-makes c =
+    table_is_made c.args.m.now c.serve.new.m c.args.entry (named_entry (c.args.entry + 2)) c.args.t.now.made c.serve.new.t.made (named_again c.args.entry c.requires.entry) c.in-Ok.ensures.made c.in-Ok.ensures.answer.0
 
--- src/executing.rt:73:1
 pub returns-in-Err-NoTable-clause-makes : goal.returns-in-Err-NoTable-clause-makes
-returns-in-Err-NoTable-clause-makes c = ?
+returns-in-Err-NoTable-clause-makes c =
+    let h = rw c.in-Err-NoTable.field-0-is at c.in-Err-NoTable.ensures.answer in
+    (
+      no_table_is_made c.args.m.now c.args.entry (named_entry (c.args.entry + 2)) c.args.t.now.made (named_again c.args.entry c.requires.entry) h,
+      λ j. tabled_of (c.in-Err-NoTable.ensures.refused.0 j) (c.in-Err-NoTable.ensures.refused.1 j).made,
+    )
