@@ -201,8 +201,9 @@ module _ (cfg outers : ℕ) (bare : Bool) (s : State Tabled) where
   -- what is found, by the reading
   event_read : (r : Reading) (i : Instr) (size n : ℕ) → found_by s.processor.rip n r ≡ Ok (i, size) → event_by At s r ≡ event_of s (is_call i || is_return i) (deed_of At i (next_address s.processor.rip size) s)
   event_read (Is j k) i size n h =
-      let e : j ≡ i = cc in
-      let f : k ≡ size = cc in
+      let q : (j, k) ≡ (i, size) = cc in
+      let e : j ≡ i = ap (λ (p : Instr × ℕ). p.0) q in
+      let f : k ≡ size = ap (λ (p : Instr × ℕ). p.1) q in
       λ x. event_of s (is_call (e x) || is_return (e x)) (deed_of At (e x) (next_address s.processor.rip (f x)) s)
   event_read Part i size n h = absurd (cc)
   event_read Neither i size n h = absurd (cc)

@@ -125,7 +125,7 @@ module _ (g : Ground Tabled) where
   GrowsEvent s (Goes turn t) = Grows s.guest.out t.guest.out
   GrowsEvent s (Stops turn why t) = Grows s.guest.out t.guest.out
 
-  event_of_grows : (s : State Tabled) (owed : Bool) (d : Deed Tabled) → GrowsDeed s d → GrowsEvent s (event_of s owed d)
+  pub event_of_grows : (s : State Tabled) (owed : Bool) (d : Deed Tabled) → GrowsDeed s d → GrowsEvent s (event_of s owed d)
   event_of_grows s owed (Does t) h = h
   event_of_grows s owed (Halts why t) h = h
 

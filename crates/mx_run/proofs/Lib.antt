@@ -7,3 +7,4 @@ pub mod Growth
 pub mod Back
 pub mod Advance
 pub mod ReaderLaws
+pub mod PlacingLaws

@@ -54,6 +54,9 @@ more_of bytes (b ∷ rest) i need s e l = (i, b, rest, s)
 part_of : (bytes : List ℕ) (need : ℕ) → IsCutShort bytes need → BeginsPart bytes
 part_of bytes need h = more_of bytes h.shortest.rest h.shortest.instr need h.shortest.spells h.shortest.size h.proper
 
+second : (p q : Instr × ℕ) → ◌≡◌ {A = Result (Instr × ℕ) Undecoded} (Ok p) (Ok q) → p.1 ≡ q.1
+second p q h = let e : p ≡ q = cc in ap (λ (p : Instr × ℕ). p.1) e
+
 begins_longer : (bytes : List ℕ) (b : ℕ) (rest : List ℕ) (i j : Instr) (n : ℕ) → BeginsWith bytes j n → Spells (bytes ++ b ∷ rest) i → ⊥
 begins_longer bytes b rest i j n h s =
     let whole : BeginsWith (bytes ++ b ∷ rest) i (length (bytes ++ b ∷ rest)) = record { within = omega arith; spells = subst (λ (xs : List ℕ). Spells xs i) (sym (take-length (bytes ++ b ∷ rest))) s } in
@@ -61,11 +64,8 @@ begins_longer bytes b rest i j n h s =
     let long : length (bytes ++ b ∷ rest) ≡ length bytes + suc (length rest) = length-append bytes (b ∷ rest) in
     let front : BeginsWith (bytes ++ b ∷ rest) j n = record { within = omega arith; spells = subst (λ (xs : List ℕ). Spells xs j) (sym (take-append-le n bytes (b ∷ rest) within)) h.spells } in
     let same : Ok (i, length (bytes ++ b ∷ rest)) ≡ Ok (j, n) = sym (BeginsWith-run (bytes ++ b ∷ rest) i (length (bytes ++ b ∷ rest)) whole) ∙ BeginsWith-run (bytes ++ b ∷ rest) j n front in
-    let size : length (bytes ++ b ∷ rest) ≡ n = second i j _ n same in
+    let size : length (bytes ++ b ∷ rest) ≡ n = second (i, length (bytes ++ b ∷ rest)) (j, n) same in
     absurd (omega arith)
-  where
-    second : (i j : Instr) (m n : ℕ) → ◌≡◌ {A = Result (Instr × ℕ) Undecoded} (Ok (i, m)) (Ok (j, n)) → m ≡ n
-    second i j m n h = cc
 
 part_read : (bytes : List ℕ) (r : Result (Instr × ℕ) Undecoded) → All (λ b. b < 256) bytes → decoding.run bytes Start 0 ≡ r → BeginsPart bytes → reading_of r ≡ Part
 part_read bytes (Ok p) all e h = absurd (begins_longer bytes h.1 h.2 h.0 p.0 p.1 (ok-says bytes p.0 p.1 all e) h.3)
@@ -142,3 +142,13 @@ found_in_code m from n buf old h e long =
     let front : take n buf ≡ list_at n m from = ap (take n) e ∙ ap (λ k. take k (list_at n m from ++ drop n old)) (sym (length-list_at n m from)) ∙ take-append_seam (list_at n m from) (drop n old) in
     let size : length (take n buf) ≡ n = length-take-le n buf (omega arith) in
     (λ j. found_by from (size j) (reader (front j))) ∙ ap (λ k. found_by from k (reader (list_at k m from))) f.1 ∙ sym (found_code m from f.0)
+
+-- what an answer of the decoder says of the reading
+pub found_reading : (from n : ℕ) (bytes : List ℕ) (i : Instr) (size : ℕ) → BeginsWith bytes i size → Ok (i, size) ≡ found_by from n (reader bytes)
+found_reading from n bytes i size h = ap (found_by from n) (sym (reads_as bytes (Ok (i, size)) (BeginsWith-run bytes i size h)))
+
+pub nothing_reading : (from n : ℕ) (bytes : List ℕ) → All (λ b. b < 256) bytes → BeginsNothing bytes → Err (stop.Undefined from) ≡ found_by from n (reader bytes)
+nothing_reading from n bytes all h = ap (found_by from n) (sym (reads_as bytes (Err Undefined) (says-undefined bytes all h)))
+
+pub part_reading : (from n need : ℕ) (bytes : List ℕ) → All (λ b. b < 256) bytes → IsCutShort bytes need → Err (stop.Unmapped (from + n)) ≡ found_by from n (reader bytes)
+part_reading from n need bytes all h = ap (found_by from n) (sym (reads_as bytes (Err (Short need)) (says-short bytes need all h)))
