@@ -8,3 +8,4 @@ pub mod Back
 pub mod Advance
 pub mod ReaderLaws
 pub mod PlacingLaws
+pub mod Starting

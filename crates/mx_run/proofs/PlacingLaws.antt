@@ -1,9 +1,9 @@
 -- Segments lie within regions, so that they can be placed.
-use Rattle.std.proofs.Common.{◌≡◌, ◌∙◌, ℕ, ◌+◌, ◌-◌, ◌<◌, ◌≤◌, Bool, true, false, List, [], ◌∷◌, length, drop, refl, sym, ap, subst, arith}
-use Rattle.std.specs.Prelude.{Option, Some, None, Result, Ok, Err, IsOk, nat_lt, if◌then◌else◌}
+use Rattle.std.proofs.Common.{◌≡◌, ◌≢◌, suc, ◌∙◌, ℕ, ◌+◌, ◌-◌, ◌<◌, ◌≤◌, Bool, true, false, List, [], ◌∷◌, length, drop, refl, sym, ap, subst, arith}
+use Rattle.std.specs.Prelude.{Option, Some, None, Result, Ok, Err, nat_lt, slice_index_or, if◌then◌else◌}
 use Rattle.std.proofs.lemmas.Bool.Decides.{nat_tests}
 use Rattle.mx_base.specs.Regions.{is_readable, is_in, region_end, instrumented_code, legacy_code, data_region}
-use Rattle.mx_base.specs.Memory.{Bytes, with_list, first_refused}
+use Rattle.mx_base.specs.Memory.{Bytes, with_list, list_at, first_refused}
 use Rattle.paged_memory.specs.declared.stops.MemStop.{MemStop}
 use Rattle.paged_memory.specs.declared.stops.MemStop.TheVariants as mem
 use Rattle.paged_memory.specs.Ends.{run_end}
@@ -14,7 +14,12 @@ use Rattle.paged_memory.proofs.Regions.{readable_all}
 use Rattle.obj_file.specs.declared.image.Segment.{Segment}
 use Rattle.obj_file.specs.InTurn.{InTurn}
 use Rattle.obj_file.specs.Image.{room_at, IsSegment, segment_end}
-use Rattle.mx_run.specs.Placing.{AreSegments, Places}
+use Rattle.obj_file.specs.Loaded.{with_segments}
+use Rattle.std.proofs.Math.Seq.{drop-cons}
+use Rattle.std.proofs.lemmas.List.{drop_all}
+use Rattle.mx_run.specs.declared.config.MakeFault.{MakeFault}
+use Rattle.mx_run.specs.declared.config.MakeFault.TheVariants.{NoFrames, OutOfMemory}
+use Rattle.mx_run.specs.Placing.{AreSegments, Places, touched_after, used_before}
 
 within_end : (b c d : Bool) (x y z e a : ℕ) → (if b then x - a else if c then y - a else if d then z - a else 0) ≤ (if b then x else if c then y else if d then z else e) - a
 within_end true c d x y z e a = omega arith
@@ -63,19 +68,90 @@ place_done s bytes old new e h t =
 
 -- ---- a byte that is read
 
-read_one : (a : ℕ) (b : Bool) (v : ℕ) (answer : Result (Unit {0}) MemStop) → answer ≡ unless_refused (if b then None else Some a) tt → IsOk answer → Some v ≡ (if b then Some v else None)
-read_one a true v answer h k = refl
-read_one a false v (Ok u) h k = absurd (cc)
-read_one a false v (Err e) h k = absurd k
+read_one : (a : ℕ) (b : Bool) (v : ℕ) (u : Unit {0}) → ◌≡◌ {A = Result (Unit {0}) MemStop} (Ok u) (unless_refused (if b then None else Some a) tt) → Some v ≡ (if b then Some v else None)
+read_one a true v u h = refl
+read_one a false v u h = absurd (cc)
 
-pub peek_some : (a v : ℕ) (answer : Result (Unit {0}) MemStop) → answer ≡ read_answer 1 a → IsOk answer → Some v ≡ (if is_readable a then Some v else None)
+peek_some : (a v : ℕ) (u : Unit {0}) → ◌≡◌ {A = Result (Unit {0}) MemStop} (Ok u) (read_answer 1 a) → Some v ≡ (if is_readable a then Some v else None)
 unfolding read_answer first_refused
-peek_some a v answer h k = read_one a (is_readable a) v answer h k
+peek_some a v u h = read_one a (is_readable a) v u h
 
-read_none : (a : ℕ) (b : Bool) (v : ℕ) (e : MemStop) → Err e ≡ unless_refused (if b then None else Some a) tt → None ≡ (if b then Some v else None)
+read_none : (a : ℕ) (b : Bool) (v : ℕ) (e : MemStop) → ◌≡◌ {A = Result (Unit {0}) MemStop} (Err e) (unless_refused (if b then None else Some a) tt) → ◌≡◌ {A = Option ℕ} None (if b then Some v else None)
 read_none a true v e h = absurd (cc)
 read_none a false v e h = refl
 
-pub peek_none : (a v : ℕ) (e : MemStop) → Err e ≡ read_answer 1 a → None ≡ (if is_readable a then Some v else None)
+pub peek_none : (a v : ℕ) (e : MemStop) → ◌≡◌ {A = Result (Unit {0}) MemStop} (Err e) (read_answer 1 a) → ◌≡◌ {A = Option ℕ} None (if is_readable a then Some v else None)
 unfolding read_answer first_refused
 peek_none a v e h = read_none a (is_readable a) v e h
+
+first_byte : (m : Bytes) (a : ℕ) → slice_index_or (list_at 1 m a) 0 0 ≡ m a
+unfolding list_at
+first_byte m a = refl
+
+pub peek_byte : (m : Bytes) (a : ℕ) (buf : List ℕ) (u : Unit {0}) → ◌≡◌ {A = Result (Unit {0}) MemStop} (Ok u) (read_answer 1 a) → buf ≡ list_at 1 m a → Some (slice_index_or buf 0 0) ≡ (if is_readable a then Some (m a) else None)
+peek_byte m a buf u h e = ap (λ (l : List ℕ). Some (slice_index_or l 0 0)) e ∙ ap Some (first_byte m a) ∙ peek_some a (m a) u h
+
+-- ---- segments one after another
+
+-- what is left of the segments is placed on from this memory
+pub record IsOn (segments : List Segment) (old m : Paged) (i : ℕ) : Type 0 where
+  pub bytes : with_segments (bytes_of m) (drop i segments) ≡ with_segments (bytes_of old) segments
+  pub touched : touched_after (touched_of m) (drop i segments) ≡ touched_after (touched_of old) segments
+  pub used : used_before old.capacity (touched_of m) (drop i segments) ≡ used_before old.capacity (touched_of old) segments
+  pub capacity : m.capacity ≡ old.capacity
+  pub segments_left : AreSegments (drop i segments)
+
+pub on_start : (segments : List Segment) (m : Paged) → AreSegments segments → IsOn segments m m 0
+on_start segments m h = record { bytes = refl; touched = refl; used = refl; capacity = refl; segments_left = h }
+
+next_left : (segments : List Segment) (i : ℕ) (s : Segment) → i < length segments → s ≡ slice_index_or segments i s → drop i segments ≡ s ∷ drop (i + 1) segments
+next_left segments i s h e = let n : suc i ≡ i + 1 = omega arith in drop-cons segments i s h ∙ (λ j. sym e j ∷ drop (n j) segments)
+
+pub one_segment : (segments : List Segment) (old m : Paged) (i : ℕ) (s : Segment) → IsOn segments old m i → i < length segments → s ≡ slice_index_or segments i s → AreSegments (s ∷ [])
+one_segment segments old m i s h l e = let a : AreSegments (s ∷ drop (i + 1) segments) = subst AreSegments (next_left segments i s l e) h.segments_left in (a.0, a.1, tt)
+
+-- frames of one segment, and of others after it
+used_on : (b : Bool) (n : Option ℕ) (rest : Option ℕ) → (if b then n else None) ≡ None → n ≢ None → (if b then n else rest) ≡ rest
+used_on true n rest h k = absurd (k h)
+used_on false n rest h k = refl
+
+used_out : (b : Bool) (n rest : Option ℕ) (in_use : ℕ) → (if b then n else None) ≡ Some in_use → (if b then n else rest) ≡ Some in_use
+used_out true n rest in_use h = h
+used_out false n rest in_use h = absurd (cc)
+
+is_some : (n : ℕ) → Some n ≢ None
+is_some n h = cc
+
+pub on_next : (segments : List Segment) (old m new : Paged) (i : ℕ) (s : Segment) (u : Unit {0}) → IsOn segments old m i → i < length segments → s ≡ slice_index_or segments i s → Places (s ∷ []) m new (Ok u) → IsOn segments old new (i + 1)
+on_next segments old m new i s u h l e p =
+    let left = next_left segments i s l e in
+    let all : AreSegments (s ∷ drop (i + 1) segments) = subst AreSegments left h.segments_left in
+    let cap = h.capacity in
+    record {
+      bytes = ap (λ b. with_segments b (drop (i + 1) segments)) p.0 ∙ ap (with_segments (bytes_of m)) (sym left) ∙ h.bytes;
+      touched = ap (λ t. touched_after t (drop (i + 1) segments)) p.1 ∙ ap (touched_after (touched_of m)) (sym left) ∙ h.touched;
+      used = ap (λ t. used_before old.capacity t (drop (i + 1) segments)) p.1
+          ∙ sym (used_on (nat_lt old.capacity (frames_for (touched_by (length s.bytes) s.at (touched_of m)))) (Some (frames_for (touched_of m))) (used_before old.capacity (touched_by (length s.bytes) s.at (touched_of m)) (drop (i + 1) segments))
+            (subst (λ (n : ℕ). used_before n (touched_of m) (s ∷ []) ≡ None) cap p.2) (is_some (frames_for (touched_of m))))
+          ∙ ap (used_before old.capacity (touched_of m)) (sym left) ∙ h.used;
+      capacity = p.3 ∙ cap;
+      segments_left = all.2;
+    }
+
+pub on_fault : (segments : List Segment) (old m new : Paged) (i : ℕ) (s : Segment) (fault : MakeFault) → IsOn segments old m i → i < length segments → s ≡ slice_index_or segments i s → Places (s ∷ []) m new (Err fault) → Places segments old new (Err fault)
+on_fault segments old m new i s (NoFrames in_use capacity) h l e p = (
+    sym h.used ∙ ap (used_before old.capacity (touched_of m)) (next_left segments i s l e)
+    ∙ used_out (nat_lt old.capacity (frames_for (touched_by (length s.bytes) s.at (touched_of m)))) (Some (frames_for (touched_of m))) (used_before old.capacity (touched_by (length s.bytes) s.at (touched_of m)) (drop (i + 1) segments)) in_use
+      (subst (λ (n : ℕ). used_before n (touched_of m) (s ∷ []) ≡ Some in_use) h.capacity p.0),
+    p.1 ∙ h.capacity,
+  )
+on_fault segments old m new i s OutOfMemory h l e p = absurd p
+
+pub on_end : (segments : List Segment) (old m : Paged) (i : ℕ) → IsOn segments old m i → length segments ≤ i → Places segments old m (Ok tt)
+on_end segments old m i h l =
+    let none : drop i segments ≡ [] = drop_all i segments l in (
+      ap (with_segments (bytes_of m)) (sym none) ∙ h.bytes,
+      ap (touched_after (touched_of m)) (sym none) ∙ h.touched,
+      sym h.used ∙ ap (used_before old.capacity (touched_of m)) none,
+      h.capacity,
+    )

@@ -94,7 +94,9 @@ impl Machine {
             Ok(heap) => heap,
             Err(OutOfMemory) => return Err(MakeFault::OutOfMemory),
         };
-        place_segments(&mut memory, image.segments.as_slice())?;
+        if let Err(fault) = place_segments(&mut memory, image.segments.as_slice()) {
+            return Err(fault);
+        }
         Ok(Machine {
             parts: Parts {
                 cpu: cpu_at_start(),
