@@ -19,7 +19,7 @@ use Rattle.obj_file.proofs.RunLaws.{forward_of, run_step}
 use Rattle.mx_run.specs.declared.parts.Parts.{Parts}
 use Rattle.mx_run.specs.Reads.{found_at, found_by}
 use Rattle.mx_run.specs.Parts.{ground, state_of, processor_of}
-use Rattle.mx_run.specs.Events.{Around, IsNow, IsCut, Acts, Ends, Moves, TakesTurn, IsLeft, IsLost, out_of, left_of, CountsReads, CountsWrites}
+use Rattle.mx_run.specs.Events.{Around, IsNow, IsCut, Acts, Ends, Moves, TakesTurn, IsLeft, IsLost, out_of, left_of, CountsReads, CountsWrites, FindsFew}
 use Rattle.mx_run.proofs.Growth.{Grows, no_more, grows_then, deed_grows, after_grows, event_of_grows, run_grows}
 use Rattle.mx_run.proofs.Back.{leads_back}
 use Rattle.mx_run.proofs.Doing.{now_same}
@@ -340,3 +340,33 @@ counts_then why a b c e h = subst (λ n. CountsReads why n c) e h
 
 pub writes_then : (why : Option Stop) (a b c : ℕ) → b ≡ a → CountsWrites why b c → CountsWrites why a c
 writes_then why a b c e h = subst (λ n. CountsWrites why n c) e h
+
+pub finds_by : (few few' : ℕ → ℕ → Type 0) (r : Option Stop) → ((a b : ℕ) → few a b → few' a b) → FindsFew few r → FindsFew few' r
+finds_by few few' None k h = tt
+finds_by few few' (Some (stop.NoFrames in_use capacity)) k h = k in_use capacity h
+finds_by few few' (Some (stop.Exit code)) k h = tt
+finds_by few few' (Some (stop.Bounds b)) k h = tt
+finds_by few few' (Some (stop.Unmapped a)) k h = tt
+finds_by few few' (Some stop.Divide) k h = tt
+finds_by few few' (Some (stop.Undefined a)) k h = tt
+finds_by few few' (Some stop.StackOver) k h = tt
+finds_by few few' (Some stop.OutOfTurns) k h = tt
+finds_by few few' (Some (stop.Strayed a)) k h = tt
+finds_by few few' (Some stop.NoTable) k h = tt
+finds_by few few' (Some stop.ReadFault) k h = tt
+finds_by few few' (Some stop.WriteFault) k h = tt
+
+-- a fetch or a reading that stops wants no frames
+pub lost_few : (few : ℕ → ℕ → Type 0) (why : Stop) → IsLost why → FindsFew few (Some why)
+lost_few few (stop.Unmapped a) h = tt
+lost_few few (stop.Undefined a) h = tt
+lost_few few (stop.Exit code) h = absurd h
+lost_few few (stop.Bounds b) h = absurd h
+lost_few few stop.Divide h = absurd h
+lost_few few stop.StackOver h = absurd h
+lost_few few (stop.Strayed a) h = absurd h
+lost_few few stop.NoTable h = absurd h
+lost_few few stop.OutOfTurns h = absurd h
+lost_few few (stop.NoFrames in_use capacity) h = absurd h
+lost_few few stop.ReadFault h = absurd h
+lost_few few stop.WriteFault h = absurd h

@@ -7,7 +7,6 @@ use Rattle.mx_base.specs.declared.stops.Stop.TheVariants as stop
 use Rattle.mx_base.specs.Services.{Guest, Served, Answers, Exits, Overflows, Refused as Denied, service_of, served}
 use Rattle.mx_base.specs.Outside.{Adds}
 use Rattle.guest_services.proofs.Sinks.{Adds-none}
-use Rattle.paged_memory.specs.Paged.{Paged}
 use Rattle.x86_forms.specs.declared.instr.Instr.{Instr}
 use Rattle.x86_forms.specs.declared.instr.Instr.TheVariants.{Syscall}
 use Rattle.x86_forms.specs.Processor.{Processor, rax, rcx, r11}
@@ -42,35 +41,35 @@ halted_service g i s t why d e = ap (with_service_of g i s) e ∙ by_kind (is_se
     by_kind true = refl
     by_kind false = refl
 
-pub halted_acts : (g : Ground Tabled) (i : Instr) (s : State Tabled) (d : Deed Tabled) (p : Parts) (bytes so_far : List ℕ) (left held : Option (List ℕ)) (why : Stop) → left ≡ Some bytes
-    → HaltsIn d (state_of p bytes so_far) p.memory why → Acts (with_service_of g i s d) held so_far record { parts = p; left = left; held = held } (Some why)
-halted_acts g i s d p bytes so_far left held (stop.NoFrames in_use capacity) e h = Adds-none held
-halted_acts g i s d p bytes so_far left held stop.OutOfTurns e h = absurd h
-halted_acts g i s d p bytes so_far left held stop.ReadFault e h = absurd h
-halted_acts g i s d p bytes so_far left held stop.WriteFault e h = absurd h
-halted_acts g i s d p bytes so_far left held (stop.Exit code) e h = (state_of p bytes so_far, halted_service g i s _ _ d h, now_same p bytes so_far left held e)
-halted_acts g i s d p bytes so_far left held (stop.Bounds b) e h = (state_of p bytes so_far, halted_service g i s _ _ d h, now_same p bytes so_far left held e)
-halted_acts g i s d p bytes so_far left held (stop.Unmapped a) e h = (state_of p bytes so_far, halted_service g i s _ _ d h, now_same p bytes so_far left held e)
-halted_acts g i s d p bytes so_far left held stop.Divide e h = (state_of p bytes so_far, halted_service g i s _ _ d h, now_same p bytes so_far left held e)
-halted_acts g i s d p bytes so_far left held (stop.Undefined a) e h = (state_of p bytes so_far, halted_service g i s _ _ d h, now_same p bytes so_far left held e)
-halted_acts g i s d p bytes so_far left held stop.StackOver e h = (state_of p bytes so_far, halted_service g i s _ _ d h, now_same p bytes so_far left held e)
-halted_acts g i s d p bytes so_far left held (stop.Strayed a) e h = (state_of p bytes so_far, halted_service g i s _ _ d h, now_same p bytes so_far left held e)
-halted_acts g i s d p bytes so_far left held stop.NoTable e h = (state_of p bytes so_far, halted_service g i s _ _ d h, now_same p bytes so_far left held e)
+pub halted_acts : (g : Ground Tabled) (i : Instr) (s : State Tabled) (d : Deed Tabled) (p : Parts) (bytes so_far : List ℕ) (left held : Option (List ℕ)) (few : ℕ → ℕ → Type 0) (why : Stop) → left ≡ Some bytes
+    → HaltsIn d (state_of p bytes so_far) few why → Acts (with_service_of g i s d) held so_far record { parts = p; left = left; held = held } (Some why)
+halted_acts g i s d p bytes so_far left held few (stop.NoFrames in_use capacity) e h = Adds-none held
+halted_acts g i s d p bytes so_far left held few stop.OutOfTurns e h = absurd h
+halted_acts g i s d p bytes so_far left held few stop.ReadFault e h = absurd h
+halted_acts g i s d p bytes so_far left held few stop.WriteFault e h = absurd h
+halted_acts g i s d p bytes so_far left held few (stop.Exit code) e h = (state_of p bytes so_far, halted_service g i s _ _ d h, now_same p bytes so_far left held e)
+halted_acts g i s d p bytes so_far left held few (stop.Bounds b) e h = (state_of p bytes so_far, halted_service g i s _ _ d h, now_same p bytes so_far left held e)
+halted_acts g i s d p bytes so_far left held few (stop.Unmapped a) e h = (state_of p bytes so_far, halted_service g i s _ _ d h, now_same p bytes so_far left held e)
+halted_acts g i s d p bytes so_far left held few stop.Divide e h = (state_of p bytes so_far, halted_service g i s _ _ d h, now_same p bytes so_far left held e)
+halted_acts g i s d p bytes so_far left held few (stop.Undefined a) e h = (state_of p bytes so_far, halted_service g i s _ _ d h, now_same p bytes so_far left held e)
+halted_acts g i s d p bytes so_far left held few stop.StackOver e h = (state_of p bytes so_far, halted_service g i s _ _ d h, now_same p bytes so_far left held e)
+halted_acts g i s d p bytes so_far left held few (stop.Strayed a) e h = (state_of p bytes so_far, halted_service g i s _ _ d h, now_same p bytes so_far left held e)
+halted_acts g i s d p bytes so_far left held few stop.NoTable e h = (state_of p bytes so_far, halted_service g i s _ _ d h, now_same p bytes so_far left held e)
 
 -- no fault of the outside
-pub halted_counts : (d : Deed Tabled) (s : State Tabled) (m : Paged) (why : Stop) (n : ℕ) → HaltsIn d s m why → CountsReads (Some why) n n × CountsWrites (Some why) n n × FindsFew m (Some why)
-halted_counts d s m (stop.NoFrames in_use capacity) n h = (refl, refl, h)
-halted_counts d s m stop.OutOfTurns n h = absurd h
-halted_counts d s m stop.ReadFault n h = absurd h
-halted_counts d s m stop.WriteFault n h = absurd h
-halted_counts d s m (stop.Exit code) n h = (refl, refl, tt)
-halted_counts d s m (stop.Bounds b) n h = (refl, refl, tt)
-halted_counts d s m (stop.Unmapped a) n h = (refl, refl, tt)
-halted_counts d s m stop.Divide n h = (refl, refl, tt)
-halted_counts d s m (stop.Undefined a) n h = (refl, refl, tt)
-halted_counts d s m stop.StackOver n h = (refl, refl, tt)
-halted_counts d s m (stop.Strayed a) n h = (refl, refl, tt)
-halted_counts d s m stop.NoTable n h = (refl, refl, tt)
+pub halted_counts : (d : Deed Tabled) (s : State Tabled) (few : ℕ → ℕ → Type 0) (why : Stop) (n : ℕ) → HaltsIn d s few why → CountsReads (Some why) n n × CountsWrites (Some why) n n × FindsFew few (Some why)
+halted_counts d s few (stop.NoFrames in_use capacity) n h = (refl, refl, h)
+halted_counts d s few stop.OutOfTurns n h = absurd h
+halted_counts d s few stop.ReadFault n h = absurd h
+halted_counts d s few stop.WriteFault n h = absurd h
+halted_counts d s few (stop.Exit code) n h = (refl, refl, tt)
+halted_counts d s few (stop.Bounds b) n h = (refl, refl, tt)
+halted_counts d s few (stop.Unmapped a) n h = (refl, refl, tt)
+halted_counts d s few stop.Divide n h = (refl, refl, tt)
+halted_counts d s few (stop.Undefined a) n h = (refl, refl, tt)
+halted_counts d s few stop.StackOver n h = (refl, refl, tt)
+halted_counts d s few (stop.Strayed a) n h = (refl, refl, tt)
+halted_counts d s few stop.NoTable n h = (refl, refl, tt)
 
 -- ---- an instruction that asks for no service
 
@@ -172,21 +171,6 @@ pub service_stops : (cfg outers : ℕ) (bare : Bool) (i : Instr) (next : ℕ) (o
     → Acts (with_service_of (ground cfg outers bare) i (state_of old bytes so_far) (executed (ground cfg outers bare) i next (state_of old bytes so_far))) held so_far record { parts = r; left = left; held = held' } (Some why)
 service_stops cfg outers bare i next old p q r bytes so_far left held held' why restored k h e v =
     by_stop cfg outers bare i next old.cpu (state_of old bytes so_far) p q r bytes so_far left held held' restored why (service_deed cfg outers bare i next (state_of old bytes so_far) (state_of p bytes so_far) k h) (back_to cfg outers bare i next (state_of old bytes so_far) (state_of p bytes so_far) k h) e v
-
--- a service finds no want of frames
-pub served_few : (v : Served Stop) (p : Parts) (held : Option (List ℕ)) (so_far bytes : List ℕ) (new : Around) (m : Paged) (why : Stop) → Serves v p held so_far bytes new (Some why) → FindsFew m (Some why)
-served_few v p held so_far bytes new m (stop.Exit code) h = tt
-served_few v p held so_far bytes new m stop.StackOver h = tt
-served_few v p held so_far bytes new m (stop.Unmapped a) h = tt
-served_few v p held so_far bytes new m (stop.Strayed a) h = tt
-served_few v p held so_far bytes new m stop.ReadFault h = tt
-served_few v p held so_far bytes new m stop.WriteFault h = tt
-served_few v p held so_far bytes new m (stop.NoFrames in_use capacity) h = absurd h
-served_few v p held so_far bytes new m stop.OutOfTurns h = tt
-served_few v p held so_far bytes new m (stop.Bounds b) h = tt
-served_few v p held so_far bytes new m stop.Divide h = tt
-served_few v p held so_far bytes new m (stop.Undefined a) h = tt
-served_few v p held so_far bytes new m stop.NoTable h = tt
 
 -- ---- the watch
 

@@ -36,9 +36,10 @@ use Rattle.mpx_core.specs.Registers.{bounds_of, preserves}
 use Rattle.mpx_core.specs.Steps as mpx
 use Rattle.obj_file.specs.Machine.{Refusal, Misses, Invalid, Ground, State, Deed, Does, Halts, ended, restarted, served_or_ended, executed}
 use Rattle.obj_file.specs.Loaded.{Tabled, tabled_store, table_made}
-use Rattle.mx_run.specs.Parts.{ground, processor_of, tabled_of, core_stop, memory_stop, bounds_stop, once, LacksFrames, HaltsIn, MakesTable}
+use Rattle.mx_run.specs.Parts.{ground, state_of, processor_of, tabled_of, core_stop, memory_stop, bounds_stop, once, PlainLacks, WalkLacks, HaltsIn, Executes, MakesTable}
+use Rattle.mx_run.specs.declared.parts.Parts.{Parts}
 use Rattle.mx_run.proofs.PlainRows.{branches, jumps, plain_row}
-use Rattle.mx_run.proofs.Frames.{tabled, SameTabled, plain_tabled, walk_tabled, SameWalked, walked_tabled, FewFrames, FewIn, plain_few, FewInWalk, walked_few, IsOfDirectory, NamesEntry, names_entry}
+use Rattle.mx_run.proofs.Frames.{tabled, SameTabled, plain_tabled, walk_tabled, SameWalked, walked_tabled, IsOfDirectory, NamesEntry, names_entry}
 
 abbrev pub state_with : Processor → Tabled → Guest → ℕ → State Tabled
 state_with c x guest steps = record { processor = c; memory = x; guest = guest; steps = steps }
@@ -47,15 +48,11 @@ state_with c x guest steps = record { processor = c; memory = x; guest = guest; 
 abbrev pub beside : BndRegs → BoundsState
 beside b = record { bounds = bounds_of b; preserve = preserves b.cfg; status = b.status }
 
--- the numbers of a refusal for want of frames, in what the memory stands for then
-pub lacks : (m : Paged) (in_use capacity : ℕ) → FewFrames (touched_of m) m.capacity in_use capacity → LacksFrames m in_use capacity
-lacks m in_use capacity h = (h.0, h.1, record { few = h.2; in_use = h.3; capacity = h.4 })
-
 -- ---- plain instructions
 
-abbrev pub PlainEnds : Deed Tabled → BoundsState → Cpu → Paged → ℕ → Guest → ℕ → ℕ → Result Kind CoreStop → Type 0
-PlainEnds d bs cpu m made guest steps from (Ok kind) = d ≡ Does (state_with (seen (bounds_after kind bs) cpu) (tabled_of m made) guest steps)
-PlainEnds d bs cpu m made guest steps from (Err why) = HaltsIn d (state_with (seen bs cpu) (tabled_of m made) guest steps) m (core_stop from why)
+abbrev pub PlainEnds : Deed Tabled → BoundsState → Cpu → Paged → ℕ → Guest → ℕ → ℕ → (ℕ → ℕ → Type 0) → Result Kind CoreStop → Type 0
+PlainEnds d bs cpu m made guest steps from few (Ok kind) = d ≡ Does (state_with (seen (bounds_after kind bs) cpu) (tabled_of m made) guest steps)
+PlainEnds d bs cpu m made guest steps from few (Err why) = HaltsIn d (state_with (seen bs cpu) (tabled_of m made) guest steps) few (core_stop from why)
 
 module _ (cfg outers : ℕ) (bare : Bool) (i : Instr) (next : ℕ) (made : ℕ) (guest : Guest) (steps : ℕ) where
   abbrev Executed : Processor → Tabled → Deed Tabled
@@ -68,24 +65,26 @@ module _ (cfg outers : ℕ) (bare : Bool) (i : Instr) (next : ℕ) (made : ℕ) 
   unfolding executed
   executed_as c x e h = ap (served_or_ended (ground cfg outers bare) i next (state_with c x guest steps)) h
 
+  abbrev Few : BoundsState → Cpu → Paged → ℕ → ℕ → Type 0
+  Few bs cpu m in_use capacity = PlainLacks (seen bs cpu) i next m in_use capacity
+
   plain_ends : (bs : BoundsState) (cpu cpu' : Cpu) (m m' : Paged) (r : Result Kind CoreStop)
-      → SameTabled made (outcome_of bs cpu' m' r) (run (tabled_store cfg) (seen bs cpu) (row i next (seen bs cpu)) (tabled_of m made)) → FewIn (outcome_of bs cpu' m' r)
-      → PlainEnds (Executed (seen bs cpu) (tabled_of m made)) bs cpu' m' made guest steps cpu.rip r
+      → SameTabled made (outcome_of bs cpu' m' r) (run (tabled_store cfg) (seen bs cpu) (row i next (seen bs cpu)) (tabled_of m made)) → run framed (seen bs cpu) (row i next (seen bs cpu)) (framed_of m) ≡ outcome_of bs cpu' m' r
+      → PlainEnds (Executed (seen bs cpu) (tabled_of m made)) bs cpu' m' made guest steps cpu.rip (Few bs cpu m) r
   plain_ends bs cpu cpu' m m' (Ok kind) h few = executed_as _ _ _ h
   plain_ends bs cpu cpu' m m' (Err (core.Mem (mem.Unmapped a))) h few = executed_as _ _ _ h
-  plain_ends bs cpu cpu' m m' (Err (core.Mem (mem.NoFrames in_use capacity))) h few = lacks m' in_use capacity few
+  plain_ends bs cpu cpu' m m' (Err (core.Mem (mem.NoFrames in_use capacity))) h few = (seen bs cpu', framed_of m', few)
   plain_ends bs cpu cpu' m m' (Err core.Divide) h few = executed_as _ _ _ h
   plain_ends bs cpu cpu' m m' (Err core.Undefined) h few = executed_as _ _ _ h
 
   pub plain_executes : (bs : BoundsState) (cpu cpu' : Cpu) (m m' : Paged) (r : Result Kind CoreStop) → is_plain i ≡ true
       → run framed (seen bs cpu) (row i next (seen bs cpu)) (framed_of m) ≡ outcome_of bs cpu' m' r
-      → PlainEnds (Executed (seen bs cpu) (tabled_of m made)) bs cpu' m' made guest steps cpu.rip r
+      → PlainEnds (Executed (seen bs cpu) (tabled_of m made)) bs cpu' m' made guest steps cpu.rip (Few bs cpu m) r
   plain_executes bs cpu cpu' m m' r plain h =
-      let c = seen bs cpu in
       plain_ends bs cpu cpu' m m' r
       (subst (λ (o : Outcome Framed MemStop). SameTabled made o (run (tabled_store cfg) (seen bs cpu) (row i next (seen bs cpu)) (tabled_of m made))) h
       (plain_tabled cfg made (seen bs cpu) (BoundsAfter i (seen bs cpu)) (jumps i) (branches i) next (row i next (seen bs cpu)) (framed_of m) (tidy_row i next (seen bs cpu)) (plain_row i next (seen bs cpu) plain)))
-      (subst FewIn h (plain_few (seen bs cpu) (BoundsAfter i (seen bs cpu)) (jumps i) (branches i) next (row i next (seen bs cpu)) (framed_of m) (tidy_row i next (seen bs cpu)) (plain_row i next (seen bs cpu) plain)))
+      h
 
 -- the bounds registers after a branch
 pub branched_as : (cpu : Cpu) (b b' : BndRegs) (prefixed : Bool) → bounds_of b' ≡ (if prefixed || preserves b.cfg then bounds_of b else init_bounds) → b'.cfg ≡ b.cfg → b'.status ≡ b.status
@@ -95,29 +94,29 @@ branched_as cpu b b' prefixed e f k =
 
 -- ---- MPX instructions
 
-abbrev pub WalkEnds : Outcome Tabled Refusal → mpx.Beside → (ℕ → ℕ) → ℕ → BndRegs → Paged → ℕ → Result (Unit {0}) BndStop → Type 0
-WalkEnds e bs regs next b m made (Ok done) = e ≡ Done (at_next (mpx.seen bs regs b) next) (tabled_of m made)
-WalkEnds e bs regs next b m made (Err (bnd.Violation value lb ub)) = e ≡ Failed (Violates value record { lb = lb; ub = ub }) (mpx.seen bs regs b) (tabled_of m made)
-WalkEnds e bs regs next b m made (Err (bnd.Invalid entry)) = e ≡ Refused (Invalid entry) (mpx.seen bs regs b) (tabled_of m made)
-WalkEnds e bs regs next b m made (Err (bnd.Stop (mem.Unmapped a))) = e ≡ Refused (Misses a) (mpx.seen bs regs b) (tabled_of m made)
-WalkEnds e bs regs next b m made (Err (bnd.Stop (mem.NoFrames in_use capacity))) = LacksFrames m in_use capacity
+abbrev pub WalkEnds : Outcome Tabled Refusal → mpx.Beside → (ℕ → ℕ) → ℕ → BndRegs → Paged → ℕ → (ℕ → ℕ → Type 0) → Result (Unit {0}) BndStop → Type 0
+WalkEnds e bs regs next b m made few (Ok done) = e ≡ Done (at_next (mpx.seen bs regs b) next) (tabled_of m made)
+WalkEnds e bs regs next b m made few (Err (bnd.Violation value lb ub)) = e ≡ Failed (Violates value record { lb = lb; ub = ub }) (mpx.seen bs regs b) (tabled_of m made)
+WalkEnds e bs regs next b m made few (Err (bnd.Invalid entry)) = e ≡ Refused (Invalid entry) (mpx.seen bs regs b) (tabled_of m made)
+WalkEnds e bs regs next b m made few (Err (bnd.Stop (mem.Unmapped a))) = e ≡ Refused (Misses a) (mpx.seen bs regs b) (tabled_of m made)
+WalkEnds e bs regs next b m made few (Err (bnd.Stop (mem.NoFrames in_use capacity))) = few in_use capacity
 
-walk_ends : (e : Outcome Tabled Refusal) (bs : mpx.Beside) (regs : ℕ → ℕ) (next : ℕ) (b : BndRegs) (m : Paged) (made : ℕ) (r : Result (Unit {0}) BndStop)
-    → SameWalked made (mpx.outcome_of bs regs next b m r) e → FewInWalk (mpx.outcome_of bs regs next b m r) → WalkEnds e bs regs next b m made r
-walk_ends e bs regs next b m made (Ok done) h few = h
-walk_ends e bs regs next b m made (Err (bnd.Violation value lb ub)) h few = h
-walk_ends e bs regs next b m made (Err (bnd.Invalid entry)) h few = h
-walk_ends e bs regs next b m made (Err (bnd.Stop (mem.Unmapped a))) h few = h
-walk_ends e bs regs next b m made (Err (bnd.Stop (mem.NoFrames in_use capacity))) h few = lacks m in_use capacity few
+walk_ends : (e : Outcome Tabled Refusal) (i : Instr) (bs : mpx.Beside) (regs : ℕ → ℕ) (next : ℕ) (b b' : BndRegs) (m m' : Paged) (made : ℕ) (r : Result (Unit {0}) BndStop)
+    → SameWalked made (mpx.outcome_of bs regs next b' m' r) e → mpx.Does bs regs next b m (row i next (mpx.seen bs regs b)) b' m' r → WalkEnds e bs regs next b' m' made (WalkLacks b.cfg (mpx.seen bs regs b) i next m) r
+walk_ends e i bs regs next b b' m m' made (Ok done) h few = h
+walk_ends e i bs regs next b b' m m' made (Err (bnd.Violation value lb ub)) h few = h
+walk_ends e i bs regs next b b' m m' made (Err (bnd.Invalid entry)) h few = h
+walk_ends e i bs regs next b b' m m' made (Err (bnd.Stop (mem.Unmapped a))) h few = h
+walk_ends e i bs regs next b b' m m' made (Err (bnd.Stop (mem.NoFrames in_use capacity))) h few = (mpx.seen bs regs b', mpx.framed_of m', few)
 
 pub walk_executes : (i : Instr) (next made : ℕ) (bs : mpx.Beside) (regs : ℕ → ℕ) (b b' : BndRegs) (m m' : Paged) (r : Result (Unit {0}) BndStop)
     → mpx.Does bs regs next b m (row i next (mpx.seen bs regs b)) b' m' r
-    → WalkEnds (run (tabled_store b.cfg) (mpx.seen bs regs b) (row i next (mpx.seen bs regs b)) (tabled_of m made)) bs regs next b' m' made r
+    → WalkEnds (run (tabled_store b.cfg) (mpx.seen bs regs b) (row i next (mpx.seen bs regs b)) (tabled_of m made)) bs regs next b' m' made (WalkLacks b.cfg (mpx.seen bs regs b) i next m) r
 walk_executes i next made bs regs b b' m m' r h =
-    walk_ends _ bs regs next b' m' made r
+    walk_ends _ i bs regs next b b' m m' made r
     (subst (λ (o : Outcome mpx.Framed Walk). SameWalked made o (run (tabled_store b.cfg) (mpx.seen bs regs b) (row i next (mpx.seen bs regs b)) (tabled_of m made))) h
     (walked_tabled b.cfg made (mpx.seen bs regs b) (BoundsAfter i (mpx.seen bs regs b)) (row i next (mpx.seen bs regs b)) (mpx.framed_of m) (tidy_row i next (mpx.seen bs regs b))))
-    (subst FewInWalk h (walked_few b.cfg (mpx.seen bs regs b) (BoundsAfter i (mpx.seen bs regs b)) (row i next (mpx.seen bs regs b)) (mpx.framed_of m) (tidy_row i next (mpx.seen bs regs b))))
+    h
 
 -- an entry that names no table is one of the directory
 pub entry_of : (i : Instr) (next made entry : ℕ) (bs : mpx.Beside) (regs : ℕ → ℕ) (b b' : BndRegs) (m m' : Paged)
@@ -126,19 +125,19 @@ entry_of i next made entry bs regs b b' m m' h =
     subst (NamesEntry b.cfg) (walk_executes i next made bs regs b b' m m' (Err (bnd.Invalid entry)) h) (names_entry b.cfg (mpx.seen bs regs b) (row i next (mpx.seen bs regs b)) (tabled_of m made))
 
 -- done once: what is left as a stop
-pub once_halts : (g : Ground Tabled) (i : Instr) (next : ℕ) (s : State Tabled) (bs : mpx.Beside) (regs : ℕ → ℕ) (b : BndRegs) (m : Paged) (made from : ℕ) (why : BndStop) → s.processor.rip ≡ from
-    → WalkEnds (run g.store s.processor (row i next s.processor) s.memory) bs regs next b m made (Err why)
-    → HaltsIn (once g i next s) (record s { processor = mpx.seen bs regs b; memory = tabled_of m made }) m (bounds_stop from why)
-once_halts g i next s bs regs b m made from (bnd.Violation value lb ub) e h = ap (ended s) h ∙ (λ j. Halts (stop.Bounds (record { value = value; lb = lb; ub = ub; rip = e j })) (record s { processor = mpx.seen bs regs b; memory = tabled_of m made }))
-once_halts g i next s bs regs b m made from (bnd.Invalid entry) e h = ap (ended s) h
-once_halts g i next s bs regs b m made from (bnd.Stop (mem.Unmapped a)) e h = ap (ended s) h
-once_halts g i next s bs regs b m made from (bnd.Stop (mem.NoFrames in_use capacity)) e h = h
+pub once_halts : (g : Ground Tabled) (i : Instr) (next : ℕ) (s : State Tabled) (bs : mpx.Beside) (regs : ℕ → ℕ) (b : BndRegs) (m : Paged) (made from : ℕ) (few : ℕ → ℕ → Type 0) (why : BndStop) → s.processor.rip ≡ from
+    → WalkEnds (run g.store s.processor (row i next s.processor) s.memory) bs regs next b m made few (Err why)
+    → HaltsIn (once g i next s) (record s { processor = mpx.seen bs regs b; memory = tabled_of m made }) few (bounds_stop from why)
+once_halts g i next s bs regs b m made from few (bnd.Violation value lb ub) e h = ap (ended s) h ∙ (λ j. Halts (stop.Bounds (record { value = value; lb = lb; ub = ub; rip = e j })) (record s { processor = mpx.seen bs regs b; memory = tabled_of m made }))
+once_halts g i next s bs regs b m made from few (bnd.Invalid entry) e h = ap (ended s) h
+once_halts g i next s bs regs b m made from few (bnd.Stop (mem.Unmapped a)) e h = ap (ended s) h
+once_halts g i next s bs regs b m made from few (bnd.Stop (mem.NoFrames in_use capacity)) e h = h
 
-pub walk_halts : (cfg outers : ℕ) (bare : Bool) (i : Instr) (next made : ℕ) (guest : Guest) (steps : ℕ) (bs : mpx.Beside) (regs : ℕ → ℕ) (b b' : BndRegs) (m m' : Paged) (why : MemStop)
-    → WalkEnds (run (tabled_store cfg) (mpx.seen bs regs b) (row i next (mpx.seen bs regs b)) (tabled_of m made)) bs regs next b' m' made (Err (bnd.Stop why))
-    → HaltsIn (executed (ground cfg outers bare) i next (state_with (mpx.seen bs regs b) (tabled_of m made) guest steps)) (state_with (mpx.seen bs regs b') (tabled_of m' made) guest steps) m' (memory_stop why)
-walk_halts cfg outers bare i next made guest steps bs regs b b' m m' (mem.Unmapped a) h = executed_as cfg outers bare i next made guest steps _ _ _ h
-walk_halts cfg outers bare i next made guest steps bs regs b b' m m' (mem.NoFrames in_use capacity) h = h
+pub walk_halts : (cfg outers : ℕ) (bare : Bool) (i : Instr) (next made : ℕ) (guest : Guest) (steps : ℕ) (bs : mpx.Beside) (regs : ℕ → ℕ) (b b' : BndRegs) (m m' : Paged) (few : ℕ → ℕ → Type 0) (why : MemStop)
+    → WalkEnds (run (tabled_store cfg) (mpx.seen bs regs b) (row i next (mpx.seen bs regs b)) (tabled_of m made)) bs regs next b' m' made few (Err (bnd.Stop why))
+    → HaltsIn (executed (ground cfg outers bare) i next (state_with (mpx.seen bs regs b) (tabled_of m made) guest steps)) (state_with (mpx.seen bs regs b') (tabled_of m' made) guest steps) few (memory_stop why)
+walk_halts cfg outers bare i next made guest steps bs regs b b' m m' few (mem.Unmapped a) h = executed_as cfg outers bare i next made guest steps _ _ _ h
+walk_halts cfg outers bare i next made guest steps bs regs b b' m m' few (mem.NoFrames in_use capacity) h = h
 
 -- ---- a table that is made
 
@@ -150,20 +149,39 @@ ended_same c d x y guest steps (Failed Undefines p z) e = λ j. Halts (stop.Unde
 ended_same c d x y guest steps (Failed (Violates value b) p z) e = λ j. Halts (stop.Bounds (record { value = value; lb = b.lb; ub = b.ub; rip = e j })) (state_with p z guest steps)
 ended_same c d x y guest steps (Refused o p z) e = refl
 
-pub made_halts : (g : Ground Tabled) (i : Instr) (next : ℕ) (s : State Tabled) (p : Processor) (x y : Tabled) (entry : ℕ) (m : Paged) (why : Stop) → MakesTable entry x y m (Some why)
-    → HaltsIn (restarted g i next s p x (table_made x entry)) (record s { processor = p; memory = y }) m why
-made_halts g i next s p x y entry m stop.NoTable h = ap (restarted g i next s p x) h.0 ∙ ap (λ (z : Tabled). Halts stop.NoTable (record s { processor = p; memory = z })) (sym h.1)
-made_halts g i next s p x y entry m (stop.NoFrames in_use capacity) h = h
-made_halts g i next s p x y entry m (stop.Exit code) h = absurd h
-made_halts g i next s p x y entry m (stop.Bounds b) h = absurd h
-made_halts g i next s p x y entry m (stop.Unmapped a) h = absurd h
-made_halts g i next s p x y entry m stop.Divide h = absurd h
-made_halts g i next s p x y entry m (stop.Undefined a) h = absurd h
-made_halts g i next s p x y entry m stop.StackOver h = absurd h
-made_halts g i next s p x y entry m stop.OutOfTurns h = absurd h
-made_halts g i next s p x y entry m (stop.Strayed a) h = absurd h
-made_halts g i next s p x y entry m stop.ReadFault h = absurd h
-made_halts g i next s p x y entry m stop.WriteFault h = absurd h
+pub made_halts : (g : Ground Tabled) (i : Instr) (next : ℕ) (s : State Tabled) (p : Processor) (m m' : Paged) (made made' entry : ℕ) (few : ℕ → ℕ → Type 0) (why : Stop) → MakesTable entry m made m' made' (Some why) → ((a b : ℕ) → IsShort 8 entry m a b → few a b)
+    → HaltsIn (restarted g i next s p (tabled_of m made) (table_made (tabled_of m made) entry)) (record s { processor = p; memory = tabled_of m' made' }) few why
+made_halts g i next s p m m' made made' entry few stop.NoTable h k = ap (restarted g i next s p (tabled_of m made)) h.0 ∙ ap (λ (z : Tabled). Halts stop.NoTable (record s { processor = p; memory = z })) (sym h.1)
+made_halts g i next s p m m' made made' entry few (stop.NoFrames in_use capacity) h k = k in_use capacity h
+made_halts g i next s p m m' made made' entry few (stop.Exit code) h k = absurd h
+made_halts g i next s p m m' made made' entry few (stop.Bounds b) h k = absurd h
+made_halts g i next s p m m' made made' entry few (stop.Unmapped a) h k = absurd h
+made_halts g i next s p m m' made made' entry few stop.Divide h k = absurd h
+made_halts g i next s p m m' made made' entry few (stop.Undefined a) h k = absurd h
+made_halts g i next s p m m' made made' entry few stop.StackOver h k = absurd h
+made_halts g i next s p m m' made made' entry few stop.OutOfTurns h k = absurd h
+made_halts g i next s p m m' made made' entry few (stop.Strayed a) h k = absurd h
+made_halts g i next s p m m' made made' entry few stop.ReadFault h k = absurd h
+made_halts g i next s p m m' made made' entry few stop.WriteFault h k = absurd h
+
+-- want of frames by another cause
+pub halts_by : (d : Deed Tabled) (s : State Tabled) (few few' : ℕ → ℕ → Type 0) (why : Stop) → ((a b : ℕ) → few a b → few' a b) → HaltsIn d s few why → HaltsIn d s few' why
+halts_by d s few few' (stop.NoFrames in_use capacity) k h = k in_use capacity h
+halts_by d s few few' (stop.Exit code) k h = h
+halts_by d s few few' (stop.Bounds b) k h = h
+halts_by d s few few' (stop.Unmapped a) k h = h
+halts_by d s few few' stop.Divide k h = h
+halts_by d s few few' (stop.Undefined a) k h = h
+halts_by d s few few' stop.StackOver k h = h
+halts_by d s few few' stop.OutOfTurns k h = h
+halts_by d s few few' (stop.Strayed a) k h = h
+halts_by d s few few' stop.NoTable k h = h
+halts_by d s few few' stop.ReadFault k h = h
+halts_by d s few few' stop.WriteFault k h = h
+
+pub executes_by : (d : Deed Tabled) (few few' : ℕ → ℕ → Type 0) (p : Parts) (input out : List ℕ) (r : Option Stop) → ((a b : ℕ) → few a b → few' a b) → Executes d few p input out r → Executes d few' p input out r
+executes_by d few few' p input out None k h = h
+executes_by d few few' p input out (Some why) k h = halts_by d (state_of p input out) few few' why k h
 
 -- ---- the directory
 

@@ -1,19 +1,21 @@
 -- What events and runs leave in a machine's parts, in the source and in the sink.
-use Rattle.std.specs.Prelude.{◌≡◌, ℕ, ◌+◌, ◌-◌, ◌*◌, ◌<◌, ◌==◌, ◌||◌, not, if◌then◌else◌, Bool, true, false, Option, None, Some, List, [], ◌++◌}
+use Rattle.std.specs.Prelude.{◌≡◌, ℕ, ◌+◌, ◌-◌, ◌*◌, ◌<◌, ◌==◌, ◌||◌, not, if◌then◌else◌, Bool, true, false, Option, None, Some, Ok, List, [], ◌++◌}
 use Rattle.mx_base.specs.declared.stops.Stop.{Stop}
 use Rattle.mx_base.specs.declared.stops.Stop.TheVariants as stop
 use Rattle.mx_base.specs.Outside.{Adds, HasRisen}
-use Rattle.paged_memory.specs.Paged.{Paged}
 use Rattle.mx_base.specs.Services.{Guest, Served, Answers, Exits, Overflows, Refused as Denied}
 use Rattle.x86_forms.specs.declared.instr.Instr.TheVariants.{Syscall}
 use Rattle.x86_forms.specs.Processor.{rax}
 use Rattle.x86_forms.specs.Table.{with_result}
 use Rattle.x86_forms.specs.Watch.{access_strays}
-use Rattle.obj_file.specs.Machine.{Ground, State, Deed, Does, Halts, service_span}
+use Rattle.obj_file.specs.Machine.{Ground, State, Deed, Does, Halts, next_address, service_span}
 use Rattle.obj_file.specs.Runs.{End, Out, Stopped, run_of}
 use Rattle.obj_file.specs.Loaded.{Tabled}
 use Rattle.mx_run.specs.declared.parts.Parts.{Parts}
 use Rattle.mx_run.specs.Parts.{state_of, processor_of, LacksFrames}
+use Rattle.x86_forms.specs.declared.instr.Instr.{Instr}
+use Rattle.paged_memory.specs.Paged.{bytes_of}
+use Rattle.mx_run.specs.Reads.{found_at}
 
 -- a machine's parts, with what is told of the source and the sink
 pub record Around : Type 0 where
@@ -135,7 +137,18 @@ abbrev pub CountsWrites : Option Stop → ℕ → ℕ → Type 0
 CountsWrites (Some stop.WriteFault) old new = HasRisen old new
 CountsWrites answer old new = new ≡ old
 
--- where frames were too few, a write found it so
-abbrev pub FindsFew : Paged → Option Stop → Type 0
-FindsFew m (Some (stop.NoFrames in_use capacity)) = LacksFrames m in_use capacity
-FindsFew m answer = Unit {0}
+-- what is known where frames were too few, by both numbers
+abbrev pub FindsFew : (ℕ → ℕ → Type 0) → Option Stop → Type 0
+FindsFew few (Some (stop.NoFrames in_use capacity)) = few in_use capacity
+FindsFew few answer = Unit {0}
+
+-- the instruction that a machine with these parts comes to asks for a write that finds too few free frames
+abbrev pub LacksAt : Parts → ℕ → ℕ → Type 0
+LacksAt p in_use capacity = (i : Instr) × (size : ℕ) × (found_at (bytes_of p.memory) p.cpu.rip ≡ Ok (i, size)) × LacksFrames p i (next_address p.cpu.rip size) in_use capacity
+
+-- a run came to parts of which that is so, where the source tells what is left
+pub record GivesUp (g : Ground Tabled) (turns : ℕ) (left held : Option (List ℕ)) (old : Parts) (in_use capacity : ℕ) : Type 0 where
+  pub at : Around
+  pub turns_left : ℕ
+  pub lacks : LacksAt at.parts in_use capacity
+  pub reached : (bytes so_far : List ℕ) → left ≡ Some bytes → Moves (run_of g turns (state_of old bytes so_far)) g held so_far turns_left at None

@@ -4,7 +4,7 @@ ghost use Rattle.x86_forms.specs.Accesses.{accesses, reach_of};
 ghost use Rattle.x86_forms.specs.Validity.{valid_of};
 ghost use Rattle.x86_forms.specs.Watch.{control_strays};
 ghost use Rattle.obj_file.specs.Machine.{is_call, is_return, is_service, unless_bare, reach_strays as strays_of, with_service_of, executed, deed_of};
-ghost use Rattle.mx_run.specs.Parts.{ground, state_of};
+ghost use Rattle.mx_run.specs.Parts.{ground, state_of, LacksFrames};
 ghost use Rattle.mx_run.specs.Events.{Acts, CountsReads, CountsWrites, FindsFew};
 
 use crate::executing::execute;
@@ -73,7 +73,7 @@ fn execute_served<I: Source, O: Sink>(
     ensures acts { (bytes so_far : List ℕ) → I.left input.old ≡ Some bytes → Acts (with_service_of (ground p.old.bnd.cfg doors.outers doors.bare) i.now (state_of p.old bytes so_far) (executed (ground p.old.bnd.cfg doors.outers doors.bare) i.now ((p.old.cpu.rip + len) % 2 ^ 64) (state_of p.old bytes so_far))) (O.held out.old) so_far record { parts = p.new; left = I.left input.new; held = O.held out.new } result }
     ensures reads { CountsReads result (I.faults input.old) (I.faults input.new) }
     ensures writes { CountsWrites result (O.faults out.old) (O.faults out.new) }
-    ensures few { FindsFew p.new.memory result }
+    ensures few { FindsFew (LacksFrames p.old i.now ((p.old.cpu.rip + len) % 2 ^ 64)) result }
     ensures cfg { p.new.bnd.cfg ≡ p.old.bnd.cfg }
 {
     let before = p.cpu;
@@ -106,7 +106,7 @@ pub fn act<I: Source, O: Sink>(
     ensures acts { (bytes so_far : List ℕ) → I.left input.old ≡ Some bytes → Acts (deed_of (ground p.old.bnd.cfg doors.outers doors.bare) i.now ((p.old.cpu.rip + len) % 2 ^ 64) (state_of p.old bytes so_far)) (O.held out.old) so_far record { parts = p.new; left = I.left input.new; held = O.held out.new } result }
     ensures reads { CountsReads result (I.faults input.old) (I.faults input.new) }
     ensures writes { CountsWrites result (O.faults out.old) (O.faults out.new) }
-    ensures few { FindsFew p.new.memory result }
+    ensures few { FindsFew (LacksFrames p.old i.now ((p.old.cpu.rip + len) % 2 ^ 64)) result }
     ensures cfg { p.new.bnd.cfg ≡ p.old.bnd.cfg }
 {
     let from = p.cpu.rip;

@@ -4,8 +4,8 @@ ghost use Rattle.x86_forms.specs.Validity.{valid_of};
 ghost use Rattle.x86_forms.specs.Watch.{is_legacy};
 ghost use Rattle.obj_file.specs.Machine.{is_call, is_return, deed_of, event_of};
 ghost use Rattle.obj_file.specs.Runs.{after, run_of};
-ghost use Rattle.mx_run.specs.Parts.{ground, state_of};
-ghost use Rattle.mx_run.specs.Events.{Moves, Falls, Ends, TakesTurn, IsLeft, CountsReads, CountsWrites, FindsFew};
+ghost use Rattle.mx_run.specs.Parts.{ground, state_of, LacksFrames};
+ghost use Rattle.mx_run.specs.Events.{Moves, Falls, Ends, TakesTurn, IsLeft, CountsReads, CountsWrites, FindsFew, LacksAt, GivesUp};
 
 use crate::acting::{act, calls, returns};
 use crate::finding::find;
@@ -76,7 +76,7 @@ fn advance<I: Source, O: Sink>(
     ensures falls { Falls turns.old p.old.cpu.rip turns.new p.new.cpu.rip result }
     ensures reads { CountsReads result (I.faults input.old) (I.faults input.new) }
     ensures writes { CountsWrites result (O.faults out.old) (O.faults out.new) }
-    ensures few { FindsFew p.new.memory result }
+    ensures few { FindsFew (LacksFrames p.old i.now ((p.old.cpu.rip + len) % 2 ^ 64)) result }
     ensures cfg { p.new.bnd.cfg ≡ p.old.bnd.cfg }
 {
     let before = p.cpu;
@@ -105,7 +105,7 @@ fn event<I: Source, O: Sink>(
     ensures falls { Falls turns.old p.old.cpu.rip turns.new p.new.cpu.rip result }
     ensures reads { CountsReads result (I.faults input.old) (I.faults input.new) }
     ensures writes { CountsWrites result (O.faults out.old) (O.faults out.new) }
-    ensures few { FindsFew p.new.memory result }
+    ensures few { FindsFew (LacksAt p.old) result }
     ensures cfg { p.new.bnd.cfg ≡ p.old.bnd.cfg }
 {
     let legacy = is_of_legacy(p.cpu.rip);
@@ -134,7 +134,7 @@ pub fn run_events<I: Source, O: Sink>(
     ensures ends { (bytes so_far : List ℕ) → I.left input.old ≡ Some bytes → Ends (run_of (ground p.old.bnd.cfg doors.outers doors.bare) turns (state_of p.old bytes so_far)) (O.held out.old) so_far record { parts = p.new; left = I.left input.new; held = O.held out.new } result }
     ensures reads { CountsReads (Some result) (I.faults input.old) (I.faults input.new) }
     ensures writes { CountsWrites (Some result) (O.faults out.old) (O.faults out.new) }
-    ensures few { FindsFew p.new.memory (Some result) }
+    ensures few { FindsFew (GivesUp (ground p.old.bnd.cfg doors.outers doors.bare) turns (I.left input.old) (O.held out.old) p.old) (Some result) }
     ensures cfg { p.new.bnd.cfg ≡ p.old.bnd.cfg }
 {
     let mut left = turns;

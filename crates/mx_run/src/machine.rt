@@ -9,7 +9,7 @@ ghost use Rattle.mpx_core.specs.Registers.{bounds_of, preserves};
 ghost use Rattle.obj_file.specs.Image.{IsImage};
 ghost use Rattle.obj_file.specs.Loaded.{configuration};
 ghost use Rattle.obj_file.specs.Runs.{run_of};
-ghost use Rattle.mx_run.specs.Events.{Ends, CountsReads, CountsWrites, FindsFew};
+ghost use Rattle.mx_run.specs.Events.{Ends, CountsReads, CountsWrites, FindsFew, GivesUp};
 ghost use Rattle.mx_run.specs.Machines.{ground_of, machine_state, Makes, kept_by, IsSameMachine};
 
 use crate::config::{Config, MakeFault};
@@ -123,7 +123,7 @@ impl Machine {
         ensures runs { self.old.kept ≡ None → (bytes so_far : List ℕ) → I.left input.old ≡ Some bytes → Ends (run_of (ground_of self.old) turns (machine_state self.old bytes so_far)) (O.held out.old) so_far record { parts = self.new.parts; left = I.left input.new; held = O.held out.new } result }
         ensures reads { self.old.kept ≡ None → CountsReads (Some result) (I.faults input.old) (I.faults input.new) }
         ensures writes { self.old.kept ≡ None → CountsWrites (Some result) (O.faults out.old) (O.faults out.new) }
-        ensures few { self.old.kept ≡ None → FindsFew self.new.parts.memory (Some result) }
+        ensures few { self.old.kept ≡ None → FindsFew (GivesUp (ground_of self.old) turns (I.left input.old) (O.held out.old) self.old.parts) (Some result) }
         ensures keeps { self.old.kept ≡ None → self.new.kept ≡ kept_by result }
         ensures again { (why : MachineStop) → self.old.kept ≡ Some why → (result ≡ why) × (self.new ≡ self.old) × (input.new ≡ input.old) × (out.new ≡ out.old) }
         ensures same { IsSameMachine self.old self.new }

@@ -1,7 +1,7 @@
 //! The service of a `syscall`.
 ghost use Rattle.std.specs.Prelude.{◌≡◌, ℕ, List, Some, IfSome, slice_index};
 ghost use Rattle.mx_base.specs.Services.{service_of, served};
-ghost use Rattle.paged_memory.specs.Paged.{Paged, bytes_of};
+ghost use Rattle.paged_memory.specs.Paged.{bytes_of};
 ghost use Rattle.x86_forms.specs.Processor.{rax, with_part};
 ghost use Rattle.obj_file.specs.Machine.{bytes_judged};
 ghost use Rattle.mx_run.specs.Events.{Serves, CountsReads, CountsWrites, FindsFew, write_strays as strays_at};
@@ -48,7 +48,7 @@ pub fn serve_guest<I: Source, O: Sink>(
     ensures reads { CountsReads result (I.faults input.old) (I.faults input.new) }
     ensures writes { CountsWrites result (O.faults out.old) (O.faults out.new) }
     ensures kept { IfSome result (λ e. p.new ≡ p.old) }
-    ensures few { (m : Paged) → FindsFew m result }
+    ensures few { FindsFew (λ in_use capacity. ⊥) result }
     ensures cfg { p.new.bnd.cfg ≡ p.old.bnd.cfg }
 {
     let number = p.cpu.regs[0];

@@ -1,26 +1,27 @@
 use Rattle.std.proofs.Common.{◌≡◌, ◌∙◌, ℕ, ◌+◌, ◌%◌, ◌^◌, ◌<◌, ◌≤◌, Bool, true, false, List, [], ◌∷◌, ◌++◌, refl, sym, ap, subst, slice_index, IsTrue, arith}
 use Rattle.std.specs.Prelude.{Option, Some, None, Result, Ok, Err}
 use Rattle.obj_file.specs.Machine.{executed}
-use Rattle.mx_run.specs.Parts.{ground, state_of}
+use Rattle.mx_run.specs.Parts.{ground, state_of, LacksFrames}
+use Rattle.mx_run.proofs.Advance.{finds_by}
 use Rattle.mx_run.proofs.Doing.{halted_acts, halted_counts, plain_acts, service_acts, service_stops}
 use Rattle.mx_run.proofs.acting.execute_served.Goals as goal
 
 pub returns-in-Some-clause-acts : goal.returns-in-Some-clause-acts
 returns-in-Some-clause-acts g c bytes so_far told =
-    halted_acts (ground c.args.p.now.bnd.cfg c.args.doors.outers c.args.doors.bare) c.args.i.now (state_of c.args.p.now bytes so_far) (executed (ground c.args.p.now.bnd.cfg c.args.doors.outers c.args.doors.bare) c.args.i.now ((c.args.p.now.cpu.rip + c.args.len) % 2 ^ 64) (state_of c.args.p.now bytes so_far)) c.execute.new.p bytes so_far (g.I.Source.left c.args.input.now) (g.O.Sink.held c.args.out.now) c.in-Some.stop told
+    halted_acts (ground c.args.p.now.bnd.cfg c.args.doors.outers c.args.doors.bare) c.args.i.now (state_of c.args.p.now bytes so_far) (executed (ground c.args.p.now.bnd.cfg c.args.doors.outers c.args.doors.bare) c.args.i.now ((c.args.p.now.cpu.rip + c.args.len) % 2 ^ 64) (state_of c.args.p.now bytes so_far)) c.execute.new.p bytes so_far (g.I.Source.left c.args.input.now) (g.O.Sink.held c.args.out.now) (LacksFrames c.args.p.now c.args.i.now ((c.args.p.now.cpu.rip + c.args.len) % 2 ^ 64)) c.in-Some.stop told
     (c.in-Some.ensures.does c.args.doors.outers c.args.doors.bare bytes so_far)
 
 pub returns-in-Some-clause-reads : goal.returns-in-Some-clause-reads
 returns-in-Some-clause-reads g c =
-    (halted_counts _ _ c.execute.new.p.memory c.in-Some.stop (g.I.Source.faults c.args.input.now) (c.in-Some.ensures.does 0 false [] [])).0
+    (halted_counts _ _ (LacksFrames c.args.p.now c.args.i.now ((c.args.p.now.cpu.rip + c.args.len) % 2 ^ 64)) c.in-Some.stop (g.I.Source.faults c.args.input.now) (c.in-Some.ensures.does 0 false [] [])).0
 
 pub returns-in-Some-clause-writes : goal.returns-in-Some-clause-writes
 returns-in-Some-clause-writes g c =
-    (halted_counts _ _ c.execute.new.p.memory c.in-Some.stop (g.O.Sink.faults c.args.out.now) (c.in-Some.ensures.does 0 false [] [])).1
+    (halted_counts _ _ (LacksFrames c.args.p.now c.args.i.now ((c.args.p.now.cpu.rip + c.args.len) % 2 ^ 64)) c.in-Some.stop (g.O.Sink.faults c.args.out.now) (c.in-Some.ensures.does 0 false [] [])).1
 
 pub returns-in-Some-clause-few : goal.returns-in-Some-clause-few
 returns-in-Some-clause-few g c =
-    (halted_counts _ _ c.execute.new.p.memory c.in-Some.stop 0 (c.in-Some.ensures.does 0 false [] [])).2
+    (halted_counts _ _ (LacksFrames c.args.p.now c.args.i.now ((c.args.p.now.cpu.rip + c.args.len) % 2 ^ 64)) c.in-Some.stop 0 (c.in-Some.ensures.does 0 false [] [])).2
 
 pub returns-then-not-asks-clause-acts : goal.returns-then-not-asks-clause-acts
 returns-then-not-asks-clause-acts g c bytes so_far told =
@@ -40,4 +41,4 @@ returns-in-Some-serve_guest-clause-acts g c bytes so_far told =
     (c.in-Some-serve_guest.ensures.serves bytes so_far told)
 
 pub returns-in-Some-serve_guest-clause-few : goal.returns-in-Some-serve_guest-clause-few
-returns-in-Some-serve_guest-clause-few g c = c.in-Some-serve_guest.ensures.few c.serve_guest.new.p.memory
+returns-in-Some-serve_guest-clause-few g c = finds_by (λ in_use capacity. ⊥) (LacksFrames c.args.p.now c.args.i.now ((c.args.p.now.cpu.rip + c.args.len) % 2 ^ 64)) (Some c.in-Some-serve_guest.stop) (λ a b h. absurd h) c.in-Some-serve_guest.ensures.few

@@ -3,10 +3,10 @@ use Rattle.std.specs.Prelude.{Option, Some, None, Result, Ok, Err}
 use Rattle.obj_file.specs.Machine.{is_call, is_return}
 use Rattle.obj_file.specs.Runs.{End}
 use Rattle.obj_file.specs.Loaded.{Tabled}
-use Rattle.mx_run.specs.Parts.{ground, state_of}
-use Rattle.mx_run.specs.Events.{Moves, IsLeft}
+use Rattle.mx_run.specs.Parts.{ground, state_of, LacksFrames}
+use Rattle.mx_run.specs.Events.{Moves, IsLeft, LacksAt}
 use Rattle.mx_run.proofs.Doing.{now_same}
-use Rattle.mx_run.proofs.Advance.{legacy_out, lost_ends, owed_out, run_found}
+use Rattle.mx_run.proofs.Advance.{legacy_out, lost_ends, owed_out, run_found, lost_few, finds_by}
 use Rattle.mx_run.proofs.event.event.Goals as goal
 
 pub returns-then-not-is_left-clause-moves : goal.returns-then-not-is_left-clause-moves
@@ -28,3 +28,9 @@ returns-clause-moves g c bytes so_far told =
     subst (λ (e : End Tabled). Moves e (ground c.args.p.now.bnd.cfg c.args.doors.outers c.args.doors.bare) (g.O.Sink.held c.args.out.now) so_far c.advance.new.turns record { parts = c.advance.new.p; left = (g.I.Source.left c.advance.new.input); held = (g.O.Sink.held c.advance.new.out) } c.advance.result)
     (sym (run_found c.args.p.now.bnd.cfg c.args.doors.outers c.args.doors.bare (state_of c.args.p.now bytes so_far) c.args.turns.now c.in-Ok.found.0 c.in-Ok.found.1 (sym c.find.ensures.found ∙ c.in-Ok.is)))
     (c.advance.ensures.moves bytes so_far told)
+
+pub returns-in-Err-clause-few : goal.returns-in-Err-clause-few
+returns-in-Err-clause-few g c = lost_few (LacksAt c.args.p.now) c.in-Err.stop c.in-Err.ensures.lost
+
+pub returns-clause-few : goal.returns-clause-few
+returns-clause-few g c = finds_by (LacksFrames c.args.p.now c.in-Ok.found.0 ((c.args.p.now.cpu.rip + c.in-Ok.found.1) % 2 ^ 64)) (LacksAt c.args.p.now) c.advance.result (λ a b h. (c.in-Ok.found.0, c.in-Ok.found.1, (sym c.find.ensures.found ∙ c.in-Ok.is), h)) c.advance.ensures.few

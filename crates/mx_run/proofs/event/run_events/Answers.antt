@@ -2,7 +2,8 @@ use Rattle.std.proofs.Common.{◌≡◌, ◌∙◌, ℕ, ◌+◌, ◌%◌, ◌^�
 use Rattle.std.specs.Prelude.{Option, Some, None, Result, Ok, Err}
 use Rattle.obj_file.specs.Runs.{run_of}
 use Rattle.mx_run.specs.Parts.{ground, state_of}
-use Rattle.mx_run.proofs.Advance.{moves_start, moves_end, moves_on, counts_then, writes_then}
+use Rattle.mx_run.proofs.Advance.{moves_start, moves_end, moves_on, counts_then, writes_then, finds_by}
+use Rattle.mx_run.specs.Events.{LacksAt, GivesUp}
 use Rattle.mx_run.proofs.event.run_events.Goals as goal
 
 pub loop-stop-init : goal.loop-stop-init
@@ -36,3 +37,7 @@ loop-stop-preserved g c = record {
   reads = c.in_default.ensures.reads ∙ c.loop-stop.invariant.reads;
   writes = c.in_default.ensures.writes ∙ c.loop-stop.invariant.writes;
 }
+
+pub returns-in-Some-clause-few : goal.returns-in-Some-clause-few
+returns-in-Some-clause-few g c =
+    finds_by (LacksAt c.loop-stop.p) (GivesUp (ground c.args.p.now.bnd.cfg c.args.doors.outers c.args.doors.bare) c.args.turns (g.I.Source.left c.args.input.now) (g.O.Sink.held c.args.out.now) c.args.p.now) (Some c.in-Some.stop) (λ a b h. record { at = record { parts = c.loop-stop.p; left = (g.I.Source.left c.loop-stop.input); held = (g.O.Sink.held c.loop-stop.out) }; turns_left = c.loop-stop.left; lacks = h; reached = c.loop-stop.invariant.runs }) c.in-Some.ensures.few
