@@ -1,4 +1,7 @@
 //! Small images, made by hand, and what their runs answer.
+ghost use Rattle.std.specs.Prelude.{IfOk};
+ghost use Rattle.obj_file.specs.Image.{IsImage};
+
 use super::*;
 use mx_base::{MemSink, MemSource};
 use obj_file::{Image, read_image};
@@ -36,14 +39,16 @@ fn put_u32(bytes: &mut Vec<u8>, n: u32) -> Result<(), Fail> {
 }
 
 /// An image of the start of instrumented code and of four bytes at its end, without outer entries, files and places.
-fn image_of(rt: &impl AllocGlobal, code: &[u8], end: [u8; 4]) -> Result<Image, Fail> {
+fn image_of(rt: &impl AllocGlobal, code: &[u8], end: [u8; 4]) -> Result<Image, Fail>
+    ensures { IfOk result (λ v. IsImage v) }
+{
     let mut bytes = Vec::new(rt.alloc());
     for b in [b'M', b'X', b'I', b'1', 0, 0, 0, 0, 2, 0, 0, 0] {
         bytes.push(b)?;
     }
     put_u32(&mut bytes, 0x0100_0000)?;
     put_u32(&mut bytes, 0)?;
-    put_u32(&mut bytes, code.len() as u32)?;
+    put_u32(&mut bytes, code.len().min(1000) as u32)?;
     for b in code {
         bytes.push(*b)?;
     }
@@ -55,7 +60,8 @@ fn image_of(rt: &impl AllocGlobal, code: &[u8], end: [u8; 4]) -> Result<Image, F
     }
     put_u32(&mut bytes, 0)?;
     put_u32(&mut bytes, 0)?;
-    Ok(read_image(rt.alloc(), &bytes)?)
+    let image = read_image(rt.alloc(), &bytes)?;
+    Ok(image)
 }
 
 const PLAIN: Config = Config {
