@@ -4,3 +4,12 @@ pub mod ImageLaws
 pub mod AsciiNames
 pub mod ObjectLaws
 pub mod RunLaws
+pub mod StoredPlaces
+pub mod StoredBytes
+pub mod StoredTouched
+pub mod StoredKeeps
+pub mod StoredRequests
+pub mod StoredWords
+pub mod StoredRows
+pub mod StoredSpans
+pub mod StoredEvents

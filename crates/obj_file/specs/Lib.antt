@@ -8,3 +8,5 @@ pub mod ObjectReading
 pub mod Machine
 pub mod Runs
 pub mod Loaded
+pub mod Stored
+pub mod StoreLaw

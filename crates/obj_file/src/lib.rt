@@ -19,6 +19,7 @@ mod object_writer;
 mod parts;
 mod put;
 mod run_laws;
+mod store_laws;
 
 pub use fault::FormFault;
 pub use image::{Files, Image, Segment, Segments, Spot4, Spots4};
