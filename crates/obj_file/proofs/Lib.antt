@@ -13,3 +13,4 @@ pub mod StoredWords
 pub mod StoredRows
 pub mod StoredSpans
 pub mod StoredEvents
+pub mod StoredRuns

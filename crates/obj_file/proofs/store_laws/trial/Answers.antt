@@ -6,7 +6,7 @@ use Rattle.obj_file.proofs.StoredRequests.{walk_touched}
 use Rattle.obj_file.proofs.StoredWords.{row_words}
 use Rattle.obj_file.proofs.StoredRows.{runs_alike}
 use Rattle.obj_file.proofs.StoredSpans.{reach_clear}
-use Rattle.obj_file.proofs.StoredEvents.{event_alike}
+use Rattle.obj_file.proofs.StoredRuns.{same_accesses}
 use Rattle.obj_file.proofs.store_laws.trial.Goals as goal
 
 pub returns : goal.returns
