@@ -1,8 +1,10 @@
 -- Bytes: what a write leaves and what depends on which of them.
 use Rattle.std.proofs.Common.{◌≡◌, ℕ, zero, suc, ◌+◌, ◌/◌, ◌%◌, ◌^◌, ◌<◌, ◌≤◌, ◌⊎◌, cond, ◌==◌, inl, inr, refl, ap, ◌∙◌, sym, arith}
-use Rattle.mx_base.specs.Memory.{Bytes, with_byte, number_at, with_number}
+use Rattle.std.specs.List.{All}
+use Rattle.std.proofs.lemmas.List.Elements.{All-cons}
+use Rattle.mx_base.specs.Memory.{Bytes, AreBytes, with_byte, number_at, with_number, list_at}
 use Rattle.mx_base.specs.Walk.{TableEntry, entry_in, with_entry}
-use Rattle.mx_base.proofs.MemoryLemmas.{with_number_below, with_number_above, number_at-with_number, number_at-same, number-none, number-more}
+use Rattle.mx_base.proofs.MemoryLemmas.{with_number_below, with_number_above, number_at-with_number, number_at-same, AreBytes-with_number}
 
 -- ---- numbers
 
@@ -70,9 +72,23 @@ entry_back m at e lb held value =
     let d : number_at 8 (with_number 8 second (at + 16) e.value) (at + 16) ≡ e.value = word_back second (at + 16) e.value value in
     λ i. record { lb = a i; held = b i; value = d i }
 
+pub AreBytes-with_entry : (m : Bytes) (at : ℕ) (e : TableEntry) → AreBytes m → AreBytes (with_entry m at e)
+unfolding with_entry
+AreBytes-with_entry m at e bytes =
+    let first = with_number 8 m at e.lb in
+    let second = with_number 8 first (at + 8) e.held in
+    AreBytes-with_number 8 second (at + 16) e.value (AreBytes-with_number 8 first (at + 8) e.held (AreBytes-with_number 8 m at e.lb bytes))
+
 -- entries that share no byte
 pub entry_apart : (m : Bytes) (at to : ℕ) (e : TableEntry) → (at + 32 ≤ to) ⊎ (to + 32 ≤ at) → entry_in (with_entry m to e) at ≡ entry_in m at
 entry_apart m at to e apart = entry_in-same (with_entry m to e) m at (λ z low high. with_entry_apart m to z e (elim apart [
   | inl h ↦ inl (omega arith)
   | inr h ↦ inr (omega arith)
 ]))
+
+-- ---- lists
+
+pub bytes-list_at : (n : ℕ) (m : Bytes) (a : ℕ) → AreBytes m → All (λ b. b < 256) (list_at n m a)
+unfolding list_at
+bytes-list_at zero m a bytes = λ k d low. absurd (omega arith)
+bytes-list_at (suc n) m a bytes = All-cons (λ b. b < 256) (m a) (list_at n m (a + 1)) (bytes a) (bytes-list_at n m (a + 1) bytes)

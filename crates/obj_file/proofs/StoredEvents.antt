@@ -25,6 +25,7 @@ use Rattle.obj_file.specs.Machine.{Reading, Is, Part, Neither, Refusal, Misses, 
 use Rattle.obj_file.specs.Loaded.{Tabled, Mode, configuration, tabled_store, table_made, ground_of}
 use Rattle.obj_file.specs.Stored.{Stored, is_touched, stored_store, megabyte_touched, stored_ground}
 use Rattle.obj_file.specs.StoreLaw.{HoldsWords, StandsIn, StatesAlike, EventsAlike, ReadsValid, StaysOut, read_by, service_reads, ReadingStaysOut, EventStaysOut, bounded_megabytes, megabyte_entry_at, is_of_bounds}
+use Rattle.obj_file.proofs.StoredBytes.{bytes-list_at}
 use Rattle.obj_file.proofs.StoredRequests.{avoided, IsWanting, ServedAlike, serves_alike}
 use Rattle.obj_file.proofs.StoredWords.{result_words, row_words}
 use Rattle.obj_file.proofs.StoredRows.{Clear, OutcomesAlike, runs_alike}
@@ -249,7 +250,7 @@ module _ (reads : List ℕ → Reading) (outers : ℕ) (mode : Mode) where
       elim (is_executable s.processor.rip) as (λ b. is_executable s.processor.rip ≡ b
         → EventsAlike (cond b (event_by (ground_of reads outers mode) s (reading_at (ground_of reads outers mode) s)) (event_of s false (Halts (stop.Unmapped s.processor.rip) s)))
           (cond b (event_by (stored_ground reads outers mode) (over s y) (reading_at (stored_ground reads outers mode) (over s y))) (event_of (over s y) false (Halts (stop.Unmapped s.processor.rip) (over s y))))) [
-        | true ↦ λ code. event_by_alike s y _ _ (reading_same s y h code) (λ i size is. valid _ i size is) h words (out code)
+        | true ↦ λ code. event_by_alike s y _ _ (reading_same s y h code) (λ i size is. valid _ i size (bytes-list_at (fetched_size s.processor.rip) s.memory.bytes s.processor.rip h.each_byte) is) h words (out code)
         | false ↦ λ code. (refl, refl, over_alike s y h words)
       ] refl
 

@@ -5,14 +5,14 @@ use Rattle.std.proofs.lemmas.Bool.{cases_lt}
 use Rattle.std.proofs.lemmas.Bool.Decides.{nat_tests}
 use Rattle.mx_base.specs.declared.limits.Bounds.{Bounds}
 use Rattle.mx_base.specs.BoundsStore.{BoundsStore, Kept, granule, with_kept, with_touched, most_tables}
-use Rattle.mx_base.specs.Memory.{Bytes, number_at, with_number}
+use Rattle.mx_base.specs.Memory.{Bytes, AreBytes, number_at, with_number}
 use Rattle.mx_base.specs.Walk.{TableEntry, entry_in, with_entry, entry_for, next_entry}
-use Rattle.mx_base.proofs.MemoryLemmas.{number_at-same}
+use Rattle.mx_base.proofs.MemoryLemmas.{number_at-same, AreBytes-with_number}
 use Rattle.obj_file.specs.Loaded.{Tabled, with_bytes}
 use Rattle.obj_file.specs.Stored.{Stored, with_store, is_touched}
 use Rattle.obj_file.specs.StoreLaw.{AreWords, KeepsWords, StandsIn, megabyte_entry_at, directory_entries, bounded_megabytes, table_entries, nth_entry_at, nth_granule, touched_at, is_of_bounds, kept_entry}
 use Rattle.obj_file.proofs.StoredPlaces.{directory_of_bounds, tables_of_bounds, entry_in_tables, entries_before, entries_before_within, granule_parts, granule_same, apart_or_same}
-use Rattle.obj_file.proofs.StoredBytes.{with_number_apart, number_apart, word_back, entry_in-same, entry_of_zeros, with_entry_apart, entry_back, entry_apart}
+use Rattle.obj_file.proofs.StoredBytes.{with_number_apart, number_apart, word_back, entry_in-same, entry_of_zeros, with_entry_apart, entry_back, entry_apart, AreBytes-with_entry}
 use Rattle.obj_file.proofs.StoredTouched.{touched_place, not_placed, placed_touched, place_before, place_last, any_more}
 
 pub outside_apart : (low n a : ℕ) → (low ≤ a → a < low + n → ⊥) → (a < low) ⊎ (low + n ≤ a)
@@ -23,9 +23,9 @@ outside_apart low n a none = elim (cases_lt a low) [
 
 -- ---- bytes elsewhere
 
-pub stands_elsewhere : (x : Tabled) (y : Stored) (m n : Bytes) → StandsIn x y → ((z : ℕ) → is_of_bounds z ≡ true → m z ≡ x.bytes z) → ((z : ℕ) → is_of_bounds z ≡ false → m z ≡ n z)
+pub stands_elsewhere : (x : Tabled) (y : Stored) (m n : Bytes) → StandsIn x y → ((z : ℕ) → is_of_bounds z ≡ true → m z ≡ x.bytes z) → ((z : ℕ) → is_of_bounds z ≡ false → m z ≡ n z) → AreBytes m
     → StandsIn (with_bytes x m) (record { bytes = n; bounds = y.bounds })
-stands_elsewhere x y m n h inside outside = record {
+stands_elsewhere x y m n h inside outside bytes = record {
   made = h.made;
   few = h.few;
   bounded = h.bounded;
@@ -37,6 +37,7 @@ stands_elsewhere x y m n h inside outside = record {
   words = h.words;
   unmade = λ a from to. inside a (tables_of_bounds a (omega arith) to) ∙ h.unmade a from to;
   others = outside;
+  each_byte = bytes;
 }
 
 -- ---- an entry stored
@@ -116,6 +117,7 @@ module _ (x : Tabled) (y : Stored) (h : StandsIn x y) (la value k r : ℕ) (b : 
     words = λ g. kept_words y.bounds la value g b small words (h.words g);
     unmade = λ a from to. with_entry_apart x.bytes (nth_entry_at k r) a (entry_for value b) (inr (omega arith)) ∙ h.unmade a from to;
     others = others_else;
+    each_byte = AreBytes-with_entry x.bytes (nth_entry_at k r) (entry_for value b) h.each_byte;
   }
 
 -- ---- one more table
@@ -199,4 +201,5 @@ module _ (x : Tabled) (y : Stored) (h : StandsIn x y) (m : ℕ) (bounded : m < b
     words = h.words;
     unmade = λ a from to. bytes_behind a (omega arith) ∙ h.unmade a (omega arith) to;
     others = others_more;
+    each_byte = AreBytes-with_number 8 x.bytes (megabyte_entry_at m) (next_entry x.made) h.each_byte;
   }

@@ -11,7 +11,7 @@ use Rattle.mx_base.specs.BoundsStore.{BoundsStore, Kept, granule, megabyte, with
 use Rattle.mx_base.specs.Memory.{Bytes, number_at, with_number, first_refused}
 use Rattle.mx_base.specs.Regions.{is_readable, is_writable, region_end, tables, directory}
 use Rattle.mx_base.specs.Walk.{Walked, Beyond, Invalid as NoTable, Stands, walk, walk_by, walk_end, is_valid_entry, directory_entry_at, table_entry_at, TableEntry, entry_in, with_entry, entry_for, entry_size, bounds_in, next_entry, with_next_table}
-use Rattle.mx_base.proofs.MemoryLemmas.{number_at-same, first_refused-all}
+use Rattle.mx_base.proofs.MemoryLemmas.{number_at-same, first_refused-all, AreBytes-with_number}
 use Rattle.x86_forms.specs.declared.spans.Span.{Span}
 use Rattle.obj_file.specs.Machine.{Refusal, Misses, Invalid}
 use Rattle.obj_file.specs.Loaded.{Tabled, with_bytes, unless_missing, at_walked, configuration, tabled_read, tabled_write, tabled_load, tabled_keep, table_made}
@@ -39,7 +39,7 @@ reads_alike x y s h out = ap (unless_missing (first_refused is_readable s.size s
 pub written_stands : (x : Tabled) (y : Stored) (s : Span) (v : ℕ) → StandsIn x y → AvoidsBounds s → StandsIn (with_bytes x (with_number s.size x.bytes s.at v)) (record { bytes = with_number s.size y.bytes s.at v; bounds = y.bounds })
 written_stands x y s v h out = stands_elsewhere x y (with_number s.size x.bytes s.at v) (with_number s.size y.bytes s.at v) h
     (λ z inside. with_number_apart s.size x.bytes s.at v z (outside_apart s.at s.size z (λ from to. let here = avoided s z out from to in absurd (cc))))
-    (λ z outside. with_number_both s.size x.bytes y.bytes s.at v z (h.others z outside))
+    (λ z outside. with_number_both s.size x.bytes y.bytes s.at v z (h.others z outside)) (AreBytes-with_number s.size x.bytes s.at v h.each_byte)
 
 -- how two answers agree, where P holds between the memories that they leave
 abbrev pub AnswersAlike : {A B : Type 0} → (A → B → Type 0) → (Refusal → Type 0) → Result A Refusal → Result B Refusal → Type 0

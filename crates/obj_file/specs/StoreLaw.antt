@@ -1,11 +1,11 @@
 -- When the directory and the tables hold what the store of bounds keeps, and which runs leave them to walks and servings.
 use Rattle.std.specs.Prelude.{◌≡◌, ℕ, zero, suc, ◌+◌, ◌*◌, ◌/◌, ◌^◌, ◌<◌, ◌≤◌, ⊤, ◌⊎◌, Bool, true, false, IsTrue, not, ◌&&◌, ◌||◌, if◌then◌else◌, Option, None, Some, List, [], ◌∷◌, ◌++◌, length, slice_index}
-use Rattle.std.specs.List.{AllByRecursion}
+use Rattle.std.specs.List.{All, AllByRecursion}
 use Rattle.mx_base.specs.declared.limits.Bounds.{Bounds}
 use Rattle.mx_base.specs.declared.stops.Stop.{Stop}
 use Rattle.mx_base.specs.Bounds.{moved}
 use Rattle.mx_base.specs.BoundsStore.{BoundsStore, Kept, most_tables}
-use Rattle.mx_base.specs.Memory.{number_at}
+use Rattle.mx_base.specs.Memory.{AreBytes, number_at}
 use Rattle.mx_base.specs.Regions.{directory, tables, region_end, is_in, is_executable}
 use Rattle.mx_base.specs.Services.{Service, Write, service_of}
 use Rattle.mx_base.specs.Walk.{TableEntry, entry_in, entry_for, next_entry, table_size}
@@ -90,6 +90,7 @@ pub record StandsIn (x : Tabled) (y : Stored) : Type 0 where
   pub words : (g : ℕ) → KeepsWords (y.bounds.kept g)
   pub unmade : (a : ℕ) → nth_entry_at x.made 0 ≤ a → a < region_end tables → x.bytes a ≡ 0
   pub others : (a : ℕ) → is_of_bounds a ≡ false → x.bytes a ≡ y.bytes a
+  pub each_byte : AreBytes x.bytes
 
 -- two states that differ in memory alone, of which one stands for the other
 pub record StatesAlike (s : State Tabled) (t : State Stored) : Type 0 where
@@ -113,9 +114,9 @@ EndsAlike (Stopped why s) (Stopped also t) = (why ≡ also) × StatesAlike s t
 
 -- ---- readers
 
--- what is read is valid
+-- what is read of bytes is valid
 abbrev pub ReadsValid : (List ℕ → Reading) → Type 0
-ReadsValid reads = (bytes : List ℕ) (i : Instr) (size : ℕ) → reads bytes ≡ Is i size → IsTrue (valid_of i)
+ReadsValid reads = (bytes : List ℕ) (i : Instr) (size : ℕ) → All (λ b. b < 256) bytes → reads bytes ≡ Is i size → IsTrue (valid_of i)
 
 -- ---- runs that leave the directory and the tables to walks and servings
 
