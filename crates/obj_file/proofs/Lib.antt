@@ -14,3 +14,5 @@ pub mod StoredRows
 pub mod StoredSpans
 pub mod StoredEvents
 pub mod StoredRuns
+pub mod StoredStart
+pub mod StoredServed

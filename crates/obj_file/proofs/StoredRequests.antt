@@ -94,11 +94,11 @@ entry_writable k r low slot = let end = entry_in_tables k r low slot in first_re
 store_far : {A : Type 0} (cfg la : ℕ) (s : BoundsStore) (v : A) → walk_end ≤ la → unless_untouched cfg s la v ≡ Err (Misses la)
 store_far cfg la s v far = rw (le-ltb la walk_end far) refl
 
-store_untouched : {A : Type 0} (preserve : Bool) (la : ℕ) (s : BoundsStore) (v : A) → la < walk_end → is_touched s (megabyte la) ≡ false → unless_untouched (configuration preserve) s la v ≡ Err (Invalid (megabyte_entry_at (megabyte la)))
+pub store_untouched : {A : Type 0} (preserve : Bool) (la : ℕ) (s : BoundsStore) (v : A) → la < walk_end → is_touched s (megabyte la) ≡ false → unless_untouched (configuration preserve) s la v ≡ Err (Invalid (megabyte_entry_at (megabyte la)))
 store_untouched {A} preserve la s v near none =
     rw (lt-ltb la walk_end near, none) (let f : ℕ → Result A Refusal = λ e. Err (Invalid e) in ap f (entry_of_megabyte preserve la near))
 
-store_touched : {A : Type 0} (cfg la : ℕ) (s : BoundsStore) (v : A) → la < walk_end → is_touched s (megabyte la) ≡ true → unless_untouched cfg s la v ≡ Ok v
+pub store_touched : {A : Type 0} (cfg la : ℕ) (s : BoundsStore) (v : A) → la < walk_end → is_touched s (megabyte la) ≡ true → unless_untouched cfg s la v ≡ Ok v
 store_touched cfg la s v near some = rw (lt-ltb la walk_end near, some) refl
 
 -- ---- the bounds in an entry
@@ -218,7 +218,7 @@ served_by : (a c : Option Tabled) (b d : Option Stored) → a ≡ c → b ≡ d 
 served_by a c b d e f h = subst (λ z. ServedAlike z b) (sym e) (subst (λ z. ServedAlike c z) (sym f) h)
 
 -- what serves a megabyte that is not touched
-megabyte_served : (y : Stored) (m : ℕ) (o : Option (List ℕ)) → touched_with y.bounds.touched m ≡ o → megabyte_touched y (megabyte_entry_at m) ≡ option_map (with_store y) (option_map (with_touched y.bounds) o)
+pub megabyte_served : (y : Stored) (m : ℕ) (o : Option (List ℕ)) → touched_with y.bounds.touched m ≡ o → megabyte_touched y (megabyte_entry_at m) ≡ option_map (with_store y) (option_map (with_touched y.bounds) o)
 unfolding megabyte_touched
 megabyte_served y m o e = ap (λ a. option_map (with_store y) (option_map (with_touched y.bounds) a)) (ap (touched_with y.bounds.touched) (megabyte_of_entry m) ∙ e)
 

@@ -15,6 +15,7 @@ use Rattle.x86_forms.specs.Processor.{Processor, rax, rdx}
 use Rattle.x86_forms.specs.Accesses.{accesses}
 use Rattle.x86_forms.specs.Validity.{valid_of}
 use Rattle.x86_forms.specs.Watch.{is_watched}
+use Rattle.obj_file.specs.declared.image.Segment.{Segment}
 use Rattle.obj_file.specs.Machine.{Reading, Is, Part, Neither, Ground, State, Event, Goes, Stops, event, reading_at, next_address, service_span, is_service, rsi}
 use Rattle.obj_file.specs.Runs.{End, Out, Stopped, room}
 use Rattle.obj_file.specs.Loaded.{Tabled}
@@ -161,3 +162,9 @@ StaysOutWithin g (suc n) turns s = EventStaysOut g s × Later (StaysOutWithin g 
 -- those of a run
 unfoldable pub RunStaysOut : {X : Type 0} → Ground X → ℕ → State X → Type 0
 RunStaysOut g turns s = StaysOutWithin g (room turns s) turns s
+
+-- ---- images
+
+-- segments of bytes
+abbrev pub HaveBytes : List Segment → Type 0
+HaveBytes segments = AllByRecursion (λ s. All (λ b. b < 256) s.bytes) segments
