@@ -16,3 +16,5 @@ pub mod StoredEvents
 pub mod StoredRuns
 pub mod StoredStart
 pub mod StoredServed
+pub mod StoredWatch
+pub mod StoredImages

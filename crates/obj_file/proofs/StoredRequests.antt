@@ -91,7 +91,7 @@ entry_writable k r low slot = let end = entry_in_tables k r low slot in first_re
 
 -- ---- what the store answers
 
-store_far : {A : Type 0} (cfg la : ℕ) (s : BoundsStore) (v : A) → walk_end ≤ la → unless_untouched cfg s la v ≡ Err (Misses la)
+pub store_far : {A : Type 0} (cfg la : ℕ) (s : BoundsStore) (v : A) → walk_end ≤ la → unless_untouched cfg s la v ≡ Err (Misses la)
 store_far cfg la s v far = rw (le-ltb la walk_end far) refl
 
 pub store_untouched : {A : Type 0} (preserve : Bool) (la : ℕ) (s : BoundsStore) (v : A) → la < walk_end → is_touched s (megabyte la) ≡ false → unless_untouched (configuration preserve) s la v ≡ Err (Invalid (megabyte_entry_at (megabyte la)))

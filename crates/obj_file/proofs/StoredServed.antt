@@ -13,7 +13,7 @@ use Rattle.obj_file.specs.Stored.{Stored, with_store, is_touched, unless_untouch
 use Rattle.obj_file.specs.StoreLaw.{StandsIn, megabyte_entry_at, table_entries, nth_granule, nth_entry_at, touched_at, kept_entry}
 use Rattle.obj_file.proofs.StoredPlaces.{slot_of, slot_below, granule_of_slot, granule_parts}
 use Rattle.obj_file.proofs.StoredTouched.{placed_touched, place_last, touched_place}
-use Rattle.obj_file.proofs.StoredRequests.{store_touched, store_untouched, touched_new, touched_full, megabyte_served, walk_touched}
+use Rattle.obj_file.proofs.StoredRequests.{store_far, store_touched, store_untouched, touched_new, touched_full, megabyte_served, walk_touched}
 
 -- ---- requests with their serving
 
@@ -72,6 +72,14 @@ unfolding stored_keep keep_bounds
 keeps_served preserve y la value b near =
     asked_served preserve y la near (λ z. with_store z (with_kept z.bounds la value b))
     ∙ map_map (λ (t : BoundsStore). with_kept t la value b) (with_store y) (touch y.bounds la)
+
+pub loads_far : (cfg : ℕ) (y : Stored) (la value : ℕ) → walk_end ≤ la → stored_load cfg y la value ≡ Err (Misses la)
+unfolding stored_load
+loads_far cfg y la value far = store_far cfg la y.bounds (bounds_for value (y.bounds.kept (granule la)), y) far
+
+pub keeps_far : (cfg : ℕ) (y : Stored) (la value : ℕ) (b : Bounds) → walk_end ≤ la → stored_keep cfg y la value b ≡ Err (Misses la)
+unfolding stored_keep
+keeps_far cfg y la value b far = store_far cfg la y.bounds (with_store y (with_kept y.bounds la value b)) far
 
 -- ---- what the walk finds
 

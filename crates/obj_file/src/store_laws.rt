@@ -1,12 +1,100 @@
-//! Laws of the run over the walk and the run over the store of bounds.
+//! Laws of a run whose bounds stand in the directory and the tables, beside the same run over the store of bounds.
 
-ghost use Rattle.std.specs.Prelude.{◌≡◌, ℕ, ◌<◌, Some, None};
-ghost use Rattle.obj_file.specs.Machine.{State};
-ghost use Rattle.obj_file.specs.Loaded.{Tabled};
-ghost use Rattle.obj_file.specs.Stored.{Stored};
-ghost use Rattle.obj_file.specs.StoreLaw.{StandsIn, EventsAlike, EndsAlike, RunStaysOut, nth_entry_at, table_entries};
+ghost use Rattle.std.specs.Prelude.{◌≡◌, ◌↔◌, ℕ, ◌<◌, ◌≤◌, Bool, false, true, Some, List, Err};
+ghost use Rattle.std.specs.Option.{option_map};
+ghost use Rattle.mx_base.specs.declared.limits.Bounds.{Bounds as BoundsPair};
+ghost use Rattle.mx_base.specs.BoundsStore.{Kept, granule, load_bounds, keep_bounds};
+ghost use Rattle.mx_base.specs.Walk.{Stands, walk, walk_end, entry_in, entry_for};
+ghost use Rattle.x86_forms.specs.declared.instr.Instr.{Instr};
+ghost use Rattle.x86_forms.specs.declared.spans.Span.{Span};
+ghost use Rattle.x86_forms.specs.Watch.{is_legacy, is_watched};
+ghost use Rattle.obj_file.specs.declared.image.Image.{Image};
+ghost use Rattle.obj_file.specs.Image.{IsImage};
+ghost use Rattle.obj_file.specs.Machine.{Reading, IsReader, Misses, Ground, State, event};
+ghost use Rattle.obj_file.specs.Runs.{run_within, run_of, accesses_of};
+ghost use Rattle.obj_file.specs.Loaded.{Tabled, Mode, configuration, ground_of, state_at_start, image_run, image_accesses};
+ghost use Rattle.obj_file.specs.Stored.{Stored, with_store, stored_load, stored_keep, with_serving, stored_ground, stored_at_start, stored_run, stored_accesses};
+ghost use Rattle.obj_file.specs.StoreLaw.{StandsIn, StatesAlike, EventsAlike, EndsAlike, ReadsValid, HaveBytes, StaysOut, EventStaysOut, StaysOutWithin, RunStaysOut};
 
-/// The law.
-pub fn trial()
-    ensures { (k : ℕ) → k ≡ k }
+/// The law that the machine over the store of bounds has this store for its bounds. An address below 2^47 is served where
+/// its megabyte is not touched; with that, each load and keep is the store's, and there is none exactly where the store
+/// has none for want of a table. Addresses from 2^47 on have no bounds.
+pub fn loads_and_keeps_are_the_store()
+    ensures loads { (preserve : Bool) (y : Stored) (la value : ℕ) → la < walk_end
+        → with_serving (λ z. stored_load (configuration preserve) z la value) y (stored_load (configuration preserve) y la value)
+            ≡ option_map (λ p. (p.0, with_store y p.1)) (load_bounds y.bounds la value) }
+    ensures keeps { (preserve : Bool) (y : Stored) (la value : ℕ) (b : BoundsPair) → la < walk_end
+        → with_serving (λ z. stored_keep (configuration preserve) z la value b) y (stored_keep (configuration preserve) y la value b)
+            ≡ option_map (with_store y) (keep_bounds y.bounds la value b) }
+    ensures no_loads { (cfg : ℕ) (y : Stored) (la value : ℕ) → walk_end ≤ la → stored_load cfg y la value ≡ Err (Misses la) }
+    ensures no_keeps { (cfg : ℕ) (y : Stored) (la value : ℕ) (b : BoundsPair) → walk_end ≤ la → stored_keep cfg y la value b ≡ Err (Misses la) }
+{}
+
+/// The law that what the store keeps for an address stands in the table entry to which the walk leads, wherever a memory
+/// with the directory and the tables stands for one with the store.
+pub fn kept_bounds_stand_in_their_entries()
+    ensures { (x : Tabled) (y : Stored) (preserve : Bool) (la : ℕ) (k : Kept) → StandsIn x y → la < walk_end → y.bounds.kept (granule la) ≡ Some k
+        → (at : ℕ) × (walk x.bytes (configuration preserve) la ≡ Stands at) × (entry_in x.bytes at ≡ entry_for k.value k.bounds) }
+{}
+
+/// The law of one event. If its accesses and its service leave the directory and the tables to walks, it goes alike over
+/// the walk and over the store of bounds: it takes a turn on both sides or on none, stops on both for the same reason or on
+/// none, and leaves the same processor, BNDSTATUS too, guest and steps, and memories of which one stands for the other.
+pub fn events_go_alike()
+    ensures { (reads : List ℕ → Reading) (outers : ℕ) (mode : Mode) (s : State Tabled) (t : State Stored) → ReadsValid reads → StatesAlike s t
+        → EventStaysOut (ground_of reads outers mode) s → EventsAlike (event (ground_of reads outers mode) s) (event (stored_ground reads outers mode) t) }
+{}
+
+/// The law of runs. As long as only walks and servings touch the directory and the tables, the run over the walk ends as the
+/// run over the store of bounds does, after any number of events and with any number of turns.
+pub fn runs_end_alike()
+    ensures within { (reads : List ℕ → Reading) (outers : ℕ) (mode : Mode) (n turns : ℕ) (s : State Tabled) (t : State Stored) → ReadsValid reads → StatesAlike s t
+        → StaysOutWithin (ground_of reads outers mode) n turns s
+        → EndsAlike (run_within (ground_of reads outers mode) n turns s) (run_within (stored_ground reads outers mode) n turns t) }
+    ensures whole { (reads : List ℕ → Reading) (outers : ℕ) (mode : Mode) (turns : ℕ) (s : State Tabled) (t : State Stored) → ReadsValid reads → StatesAlike s t
+        → RunStaysOut (ground_of reads outers mode) turns s
+        → EndsAlike (run_of (ground_of reads outers mode) turns s) (run_of (stored_ground reads outers mode) turns t) }
+{}
+
+/// The law that such runs make the same accesses for C, in the same order.
+pub fn runs_make_the_same_accesses()
+    ensures { (reads : List ℕ → Reading) (outers : ℕ) (mode : Mode) (turns : ℕ) (s : State Tabled) (t : State Stored) → ReadsValid reads → StatesAlike s t
+        → RunStaysOut (ground_of reads outers mode) turns s
+        → accesses_of (ground_of reads outers mode) turns s ≡ accesses_of (stored_ground reads outers mode) turns t }
+{}
+
+/// The law that a run leaves the directory and the tables to walks exactly where the run over the store of bounds does, so
+/// that it can be seen from either.
+pub fn either_run_stays_out()
+    ensures { (reads : List ℕ → Reading) (outers : ℕ) (mode : Mode) (turns : ℕ) (s : State Tabled) (t : State Stored) → ReadsValid reads → StatesAlike s t
+        → RunStaysOut (ground_of reads outers mode) turns s ↔ RunStaysOut (stored_ground reads outers mode) turns t }
+{}
+
+/// The law that with the watch on nothing is asked of the accesses that it judges, so nothing of legacy code: what they
+/// would touch of the directory and the tables is sealed, and they stop there.
+pub fn watched_accesses_stay_out<X>()
+    ensures accesses { (i : Instr) (from : ℕ) (s : Span) → is_watched i from s ≡ true → StaysOut false i from s }
+    ensures legacy { (g : Ground X) (s : State X) → g.bare ≡ false → is_legacy s.processor.rip ≡ true → EventStaysOut g s }
+{}
+
+/// The law that the two machines begin alike at an image: no table is made, and nothing is kept.
+pub fn images_begin_alike()
+    ensures { (v : Image) (preserve : Bool) (input : List ℕ) → IsImage v → HaveBytes v.segments
+        → StatesAlike (state_at_start v.segments preserve input) (stored_at_start v.segments preserve input) }
+{}
+
+/// The law of images. As long as only walks and servings touch the directory and the tables, the run of an image ends as
+/// its run over the store of bounds does, with the same accesses for C.
+pub fn images_run_alike()
+    ensures ends { (reads : List ℕ → Reading) (v : Image) (mode : Mode) (turns : ℕ) (input : List ℕ) → ReadsValid reads → IsImage v → HaveBytes v.segments
+        → RunStaysOut (ground_of reads v.outers mode) turns (state_at_start v.segments mode.preserve input)
+        → EndsAlike (image_run reads v mode turns input) (stored_run reads v mode turns input) }
+    ensures accesses { (reads : List ℕ → Reading) (v : Image) (mode : Mode) (turns : ℕ) (input : List ℕ) → ReadsValid reads → IsImage v → HaveBytes v.segments
+        → RunStaysOut (ground_of reads v.outers mode) turns (state_at_start v.segments mode.preserve input)
+        → image_accesses reads v mode turns input ≡ stored_accesses reads v mode turns input }
+{}
+
+/// The law that an exact reader of instructions reads valid ones.
+pub fn exact_readers_read_valid_instructions()
+    ensures { (reads : List ℕ → Reading) → IsReader reads → ReadsValid reads }
 {}

@@ -1,0 +1,74 @@
+-- A small image of MPX code, run over the walk and over the store of bounds.
+use Rattle.std.specs.Prelude.{◌≡◌, ℕ, Bool, true, false, if◌then◌else◌, Option, None, Some, List, [], ◌∷◌, ◌++◌, length, pos}
+use Rattle.std.specs.List.{starts_with, flat_map}
+use Rattle.mx_base.specs.declared.limits.Bounds.{Bounds}
+use Rattle.mx_base.specs.declared.stops.Stop.{Stop}
+use Rattle.mx_base.specs.BoundsStore.{Kept, granule}
+use Rattle.mx_base.specs.Memory.{number_at}
+use Rattle.mx_base.specs.Walk.{TableEntry, entry_in}
+use Rattle.x86_forms.specs.declared.instr.Instr.{Instr}
+use Rattle.x86_forms.specs.declared.instr.Instr.TheVariants.{MovImm, Push, Bndmk, Bndldx, Bndstx}
+use Rattle.x86_forms.specs.Examples.{reg, based, indexed}
+use Rattle.x86_forms.specs.Spelling.{spelling}
+use Rattle.obj_file.specs.declared.image.Image.{Image}
+use Rattle.obj_file.specs.Machine.{Reading, Is, Neither}
+use Rattle.obj_file.specs.Runs.{End, Out, Stopped}
+use Rattle.obj_file.specs.Loaded.{Tabled, Mode, image_run}
+use Rattle.obj_file.specs.Stored.{Stored, stored_run}
+
+-- mov ecx, 0x30000010; push rcx; bndmk bnd0, [rcx+7]; bndstx [rsp+rcx], bnd0; bndldx bnd1, [rsp+rcx]
+abbrev pub example_code : List Instr
+example_code = MovImm 32 (reg 1) (pos 0x3000_0010) ∷ Push (reg 1) ∷ Bndmk 0 (based 1 (pos 7)) ∷ Bndstx 0 (indexed 4 1 1 (pos 0)) ∷ Bndldx 1 (indexed 4 1 1 (pos 0)) ∷ []
+
+-- an image of this code
+abbrev pub example_image : Image
+example_image = record {
+  outers = 0;
+  segments = record { at = 0x0100_0000; bytes = flat_map spelling example_code } ∷ [];
+  files = [];
+  places = [];
+}
+
+-- a reader of these instructions alone
+abbrev pub reader_of : List Instr → List ℕ → Reading
+reader_of [] bytes = Neither
+reader_of (i ∷ rest) bytes = if starts_with bytes (spelling i) then Is i (length (spelling i)) else reader_of rest bytes
+
+-- what is looked at over the walk: the stop, BND1, BNDSTATUS, the tables made, the directory entry of the stack's megabyte, and the
+-- first entry of the first table
+pub record WalkSeen : Type 0 where
+  pub why : Stop
+  pub loaded : Bounds
+  pub status : ℕ
+  pub made : ℕ
+  pub directory_entry : ℕ
+  pub entry : TableEntry
+
+abbrev pub walk_seen : End Tabled → Option WalkSeen
+walk_seen (Out last) = None
+walk_seen (Stopped why last) = Some (record {
+  why = why;
+  loaded = last.processor.bounds 1;
+  status = last.processor.status;
+  made = last.memory.made;
+  directory_entry = number_at 8 last.memory.bytes 0x4000_0000_3900;
+  entry = entry_in last.memory.bytes 0x5000_0000_0000;
+})
+
+-- and over the store: the stop, BND1, BNDSTATUS, the touched megabytes, and what is kept at the top of the stack
+pub record StoreSeen : Type 0 where
+  pub why : Stop
+  pub loaded : Bounds
+  pub status : ℕ
+  pub touched : List ℕ
+  pub kept : Option Kept
+
+abbrev pub store_seen : End Stored → Option StoreSeen
+store_seen (Out last) = None
+store_seen (Stopped why last) = Some (record {
+  why = why;
+  loaded = last.processor.bounds 1;
+  status = last.processor.status;
+  touched = last.memory.bounds.touched;
+  kept = last.memory.bounds.kept (granule 0x71ff_fff8);
+})
