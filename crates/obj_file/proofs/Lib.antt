@@ -18,3 +18,4 @@ pub mod StoredStart
 pub mod StoredServed
 pub mod StoredWatch
 pub mod StoredImages
+pub mod StoredExample

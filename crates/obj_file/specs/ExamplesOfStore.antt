@@ -1,8 +1,9 @@
 -- A small image of MPX code, run over the walk and over the store of bounds.
-use Rattle.std.specs.Prelude.{◌≡◌, ℕ, Bool, true, false, if◌then◌else◌, Option, None, Some, List, [], ◌∷◌, ◌++◌, length, pos}
-use Rattle.std.specs.List.{starts_with, flat_map}
+use Rattle.std.specs.Prelude.{ℕ, nat_eq, Bool, false, if◌then◌else◌, Option, None, Some, List, [], ◌∷◌, length, pos}
+use Rattle.std.specs.List.{starts_with}
 use Rattle.mx_base.specs.declared.limits.Bounds.{Bounds}
 use Rattle.mx_base.specs.declared.stops.Stop.{Stop}
+use Rattle.mx_base.specs.declared.stops.Stop.TheVariants as stop
 use Rattle.mx_base.specs.BoundsStore.{Kept, granule}
 use Rattle.mx_base.specs.Memory.{number_at}
 use Rattle.mx_base.specs.Walk.{TableEntry, entry_in}
@@ -13,29 +14,37 @@ use Rattle.x86_forms.specs.Spelling.{spelling}
 use Rattle.obj_file.specs.declared.image.Image.{Image}
 use Rattle.obj_file.specs.Machine.{Reading, Is, Neither}
 use Rattle.obj_file.specs.Runs.{End, Out, Stopped}
-use Rattle.obj_file.specs.Loaded.{Tabled, Mode, image_run}
-use Rattle.obj_file.specs.Stored.{Stored, stored_run}
+use Rattle.obj_file.specs.Loaded.{Tabled, Mode}
+use Rattle.obj_file.specs.Stored.{Stored}
 
 -- mov ecx, 0x30000010; push rcx; bndmk bnd0, [rcx+7]; bndstx [rsp+rcx], bnd0; bndldx bnd1, [rsp+rcx]
 abbrev pub example_code : List Instr
 example_code = MovImm 32 (reg 1) (pos 0x3000_0010) ∷ Push (reg 1) ∷ Bndmk 0 (based 1 (pos 7)) ∷ Bndstx 0 (indexed 4 1 1 (pos 0)) ∷ Bndldx 1 (indexed 4 1 1 (pos 0)) ∷ []
 
--- an image of this code
-abbrev pub example_image : Image
-example_image = record {
-  outers = 0;
-  segments = record { at = 0x0100_0000; bytes = flat_map spelling example_code } ∷ [];
-  files = [];
-  places = [];
-}
+-- as an assembler puts it
+abbrev pub example_bytes : List ℕ
+example_bytes =
+    0xB9 ∷ 0x10 ∷ 0x00 ∷ 0x00 ∷ 0x30
+    ∷ 0x51
+    ∷ 0xF3 ∷ 0x0F ∷ 0x1B ∷ 0x41 ∷ 0x07
+    ∷ 0x0F ∷ 0x1B ∷ 0x04 ∷ 0x0C
+    ∷ 0x0F ∷ 0x1A ∷ 0x0C ∷ 0x0C
+    ∷ []
 
--- a reader of these instructions alone
-abbrev pub reader_of : List Instr → List ℕ → Reading
+abbrev pub example_image : Image
+example_image = record { outers = 0; segments = record { at = 0x0100_0000; bytes = example_bytes } ∷ []; files = []; places = [] }
+
+-- with the watch on, or off
+abbrev pub example_mode : Bool → Mode
+example_mode bare = record { preserve = false; bare = bare }
+
+-- a reader of some instructions alone
+unfoldable pub reader_of : List Instr → List ℕ → Reading
 reader_of [] bytes = Neither
-reader_of (i ∷ rest) bytes = if starts_with bytes (spelling i) then Is i (length (spelling i)) else reader_of rest bytes
+reader_of (i ∷ rest) bytes = if starts_with nat_eq bytes (spelling i) then Is i (length (spelling i)) else reader_of rest bytes
 
 -- what is looked at over the walk: the stop, BND1, BNDSTATUS, the tables made, the directory entry of the stack's megabyte, and the
--- first entry of the first table
+-- last entry of the first table
 pub record WalkSeen : Type 0 where
   pub why : Stop
   pub loaded : Bounds
@@ -51,8 +60,8 @@ walk_seen (Stopped why last) = Some (record {
   loaded = last.processor.bounds 1;
   status = last.processor.status;
   made = last.memory.made;
-  directory_entry = number_at 8 last.memory.bytes 0x4000_0000_3900;
-  entry = entry_in last.memory.bytes 0x5000_0000_0000;
+  directory_entry = number_at 8 last.memory.bytes 0x4000_0000_38f8;
+  entry = entry_in last.memory.bytes 0x5000_003f_ffe0;
 })
 
 -- and over the store: the stop, BND1, BNDSTATUS, the touched megabytes, and what is kept at the top of the stack
@@ -71,4 +80,31 @@ store_seen (Stopped why last) = Some (record {
   status = last.processor.status;
   touched = last.memory.bounds.touched;
   kept = last.memory.bounds.kept (granule 0x71ff_fff8);
+})
+
+-- the code ends where no instruction is read. The stack's top has bounds in the megabyte 0x71f, which was served; BNDSTATUS tells that
+-- its directory entry was invalid
+abbrev pub example_stop : Stop
+example_stop = stop.Undefined 0x0100_0013
+
+abbrev pub example_bounds : Bounds
+example_bounds = record { lb = 0x3000_0010; ub = 0x3000_0017 }
+
+abbrev pub seen_over_walk : Option WalkSeen
+seen_over_walk = Some (record {
+  why = example_stop;
+  loaded = example_bounds;
+  status = 0x4000_0000_38fa;
+  made = 1;
+  directory_entry = 0x5000_0000_0001;
+  entry = record { lb = 0x3000_0010; held = 0xffff_ffff_cfff_ffe8; value = 0x3000_0010 };
+})
+
+abbrev pub seen_over_store : Option StoreSeen
+seen_over_store = Some (record {
+  why = example_stop;
+  loaded = example_bounds;
+  status = 0x4000_0000_38fa;
+  touched = 0x71f ∷ [];
+  kept = Some (record { value = 0x3000_0010; bounds = example_bounds });
 })

@@ -10,3 +10,4 @@ pub mod Runs
 pub mod Loaded
 pub mod Stored
 pub mod StoreLaw
+pub mod ExamplesOfStore

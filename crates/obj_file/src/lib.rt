@@ -36,3 +36,9 @@ pub use run_laws::{
     a_run_is_its_first_event_and_the_rest, events_take_one_turn, quiet_events_may_be_left_out,
     runs_go_on, stopped_runs_stay_so,
 };
+pub use store_laws::{
+    a_small_image_runs_alike, either_run_stays_out, events_go_alike,
+    exact_readers_read_valid_instructions, images_begin_alike, images_run_alike,
+    kept_bounds_stand_in_their_entries, loads_and_keeps_are_the_store, runs_end_alike,
+    runs_make_the_same_accesses, watched_accesses_stay_out,
+};

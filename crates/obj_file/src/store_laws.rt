@@ -1,6 +1,6 @@
 //! Laws of a run whose bounds stand in the directory and the tables, beside the same run over the store of bounds.
 
-ghost use Rattle.std.specs.Prelude.{◌≡◌, ◌↔◌, ℕ, ◌<◌, ◌≤◌, Bool, false, true, Some, List, Err};
+ghost use Rattle.std.specs.Prelude.{◌≡◌, ◌↔◌, ℕ, ◌<◌, ◌≤◌, Bool, false, true, Some, List, [], Err};
 ghost use Rattle.std.specs.Option.{option_map};
 ghost use Rattle.mx_base.specs.declared.limits.Bounds.{Bounds as BoundsPair};
 ghost use Rattle.mx_base.specs.BoundsStore.{Kept, granule, load_bounds, keep_bounds};
@@ -14,6 +14,7 @@ ghost use Rattle.obj_file.specs.Machine.{Reading, IsReader, Misses, Ground, Stat
 ghost use Rattle.obj_file.specs.Runs.{run_within, run_of, accesses_of};
 ghost use Rattle.obj_file.specs.Loaded.{Tabled, Mode, configuration, ground_of, state_at_start, image_run, image_accesses};
 ghost use Rattle.obj_file.specs.Stored.{Stored, with_store, stored_load, stored_keep, with_serving, stored_ground, stored_at_start, stored_run, stored_accesses};
+ghost use Rattle.obj_file.specs.ExamplesOfStore.{example_code, example_image, example_mode, reader_of, walk_seen, store_seen, seen_over_walk, seen_over_store};
 ghost use Rattle.obj_file.specs.StoreLaw.{StandsIn, StatesAlike, EventsAlike, EndsAlike, ReadsValid, HaveBytes, StaysOut, EventStaysOut, StaysOutWithin, RunStaysOut};
 
 /// The law that the machine over the store of bounds has this store for its bounds. An address below 2^47 is served where
@@ -97,4 +98,16 @@ pub fn images_run_alike()
 /// The law that an exact reader of instructions reads valid ones.
 pub fn exact_readers_read_valid_instructions()
     ensures { (reads : List ℕ → Reading) → IsReader reads → ReadsValid reads }
+{}
+
+/// An example of all of this: an image that makes bounds, stores them for the top of the stack and loads them again, with
+/// the watch on and off. It is an image, it leaves the directory and the tables to walks and servings, and its two runs
+/// leave what is written there after the manual: the stored bounds in the entry of the one table that was made, and in the
+/// store.
+pub fn a_small_image_runs_alike()
+    ensures readable { ReadsValid (reader_of example_code) }
+    ensures image { IsImage example_image × HaveBytes example_image.segments }
+    ensures stays_out { (bare : Bool) → RunStaysOut (ground_of (reader_of example_code) 0 (example_mode bare)) 0 (state_at_start example_image.segments false []) }
+    ensures walk { (bare : Bool) → walk_seen (image_run (reader_of example_code) example_image (example_mode bare) 0 []) ≡ seen_over_walk }
+    ensures store { (bare : Bool) → store_seen (stored_run (reader_of example_code) example_image (example_mode bare) 0 []) ≡ seen_over_store }
 {}
