@@ -1,12 +1,12 @@
 -- Laws of runs, over the definitions alone.
-use Rattle.std.specs.Prelude.{Bool, true, false, ◌||◌, ◌&&◌, not, nat_le, nat_lt, if◌then◌else◌, List, ◌++◌, []}
-use Rattle.std.proofs.Common.{◌≡◌, ◌≢◌, ℕ, zero, suc, ◌+◌, ◌*◌, ◌-◌, ◌<◌, ◌≤◌, refl, arith, subst, ap, ◌∙◌, sym, append_assoc}
+use Rattle.std.specs.Prelude.{Bool, true, false, ◌||◌, nat_le}
+use Rattle.std.proofs.Common.{◌≡◌, ℕ, zero, suc, ◌+◌, ◌-◌, ◌<◌, ◌≤◌, refl, arith, ap, ◌∙◌, sym}
 use Rattle.std.proofs.lemmas.Bool.{cond_both}
 use Rattle.std.proofs.lemmas.Bool.Decides.{nat_tests}
 use Rattle.mx_base.specs.declared.stops.Stop.{Stop}
-use Rattle.mx_base.specs.Regions.{instrumented_code, is_in, is_executable}
+use Rattle.mx_base.specs.Regions.{is_executable}
 use Rattle.x86_forms.specs.Watch.{is_legacy}
-use Rattle.obj_file.specs.Machine.{Ground, State, Deed, Does, Halts, Event, Goes, Stops, event, event_of, event_by, deed_by, reading_at, owes, counted}
+use Rattle.obj_file.specs.Machine.{Ground, State, Deed, Does, Halts, Event, Goes, Stops, event, event_of}
 use Rattle.obj_file.specs.Runs.{End, Out, Stopped, after, run_within, run_of, room}
 
 -- an event that takes no turn leads forward in instrumented code

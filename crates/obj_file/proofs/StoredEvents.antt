@@ -1,13 +1,11 @@
 -- One event goes alike over the walk and over the store of bounds.
-use Rattle.std.proofs.Common.{◌≡◌, ℕ, ◌+◌, ◌-◌, ◌%◌, ◌<◌, ◌≤◌, ◌^◌, min, Bool, true, false, cond, nat_le, ◌||◌, ◌==◌, not, Option, Some, None, List, [], ◌∷◌, ◌++◌, inl, inr, refl, ap, ◌∙◌, sym, subst, arith}
-use Rattle.std.specs.Prelude.{⊤, if◌then◌else◌}
+use Rattle.std.proofs.Common.{◌≡◌, ℕ, ◌-◌, ◌<◌, ◌≤◌, ◌^◌, min, Bool, true, false, cond, nat_le, ◌||◌, ◌==◌, not, Option, Some, None, List, [], ◌∷◌, ◌++◌, refl, ap, ◌∙◌, sym, subst, arith}
 use Rattle.std.specs.List.{AllByRecursion}
-use Rattle.std.proofs.lemmas.Bool.{cases_Bool}
 use Rattle.std.proofs.lemmas.Bool.Decides.{nat_tests}
 use Rattle.mx_base.specs.declared.stops.Stop.{Stop}
 use Rattle.mx_base.specs.declared.stops.Stop.TheVariants as stop
 use Rattle.mx_base.specs.Memory.{Bytes, list_at, first_refused_around}
-use Rattle.mx_base.specs.Regions.{is_executable, is_readable, is_in, instrumented_code, legacy_code}
+use Rattle.mx_base.specs.Regions.{is_executable, is_readable}
 use Rattle.mx_base.specs.Services.{Guest, Service, Write, Exit, Alloc, Free, Print, Put, Get, StackOver, NoService, Served, Answers, Exits, Overflows, Refused as Denied, service_of, served, written, minus}
 use Rattle.mx_base.specs.Outside.{one_more}
 use Rattle.mx_base.proofs.MemoryLemmas.{list_at-same}
@@ -16,15 +14,15 @@ use Rattle.x86_forms.specs.declared.instr.Instr.TheVariants.{Syscall}
 use Rattle.x86_forms.specs.declared.spans.Span.{Span}
 use Rattle.x86_forms.specs.Accesses.{accesses, reach_of}
 use Rattle.x86_forms.specs.Processor.{Processor, rax, rdx}
-use Rattle.x86_forms.specs.Requests.{Outcome, Done, Failed, Refused, Fault, run}
+use Rattle.x86_forms.specs.Requests.{Outcome, Done, Failed, Refused, run}
 use Rattle.x86_forms.specs.Table.{row, with_result}
 use Rattle.x86_forms.specs.Validity.{valid_of}
 use Rattle.x86_forms.specs.Watch.{is_legacy, access_strays, control_strays}
 use Rattle.x86_forms.proofs.TableAccesses.{asks_row}
-use Rattle.obj_file.specs.Machine.{Reading, Is, Part, Neither, Refusal, Misses, Invalid, State, Deed, Does, Halts, fault_stop, refusal_stop, left_by, ended, restarted, served_or_ended, executed, unless_bare, reach_strays, unless_strayed, service_span, as_unmapped, strayed_or, bytes_judged, answered, rsi, rdi, asked, with_service, is_service, is_call, is_return, control_judged, with_service_of, deed_of, fetched_size, code_end, reading_at, next_address, deed_by, owes, Event, Goes, Stops, counted, event_of, event_by, event}
+use Rattle.obj_file.specs.Machine.{Reading, Is, Part, Neither, Refusal, Misses, Invalid, State, Deed, Does, Halts, fault_stop, refusal_stop, left_by, ended, restarted, served_or_ended, executed, unless_bare, reach_strays, unless_strayed, service_span, as_unmapped, strayed_or, bytes_judged, answered, rsi, rdi, asked, with_service, is_call, is_return, control_judged, with_service_of, deed_of, fetched_size, code_end, reading_at, next_address, deed_by, owes, event_of, event_by, event}
 use Rattle.obj_file.specs.Loaded.{Tabled, Mode, configuration, tabled_store, table_made, ground_of}
-use Rattle.obj_file.specs.Stored.{Stored, is_touched, stored_store, megabyte_touched, stored_ground}
-use Rattle.obj_file.specs.StoreLaw.{HoldsWords, StandsIn, StatesAlike, EventsAlike, ReadsValid, StaysOut, read_by, service_reads, ReadingStaysOut, EventStaysOut, bounded_megabytes, megabyte_entry_at, is_of_bounds}
+use Rattle.obj_file.specs.Stored.{Stored, stored_store, megabyte_touched, stored_ground}
+use Rattle.obj_file.specs.StoreLaw.{HoldsWords, StandsIn, StatesAlike, EventsAlike, ReadsValid, StaysOut, read_by, service_reads, ReadingStaysOut, EventStaysOut, megabyte_entry_at, is_of_bounds}
 use Rattle.obj_file.proofs.StoredBytes.{bytes-list_at}
 use Rattle.obj_file.proofs.StoredRequests.{avoided, IsWanting, ServedAlike, serves_alike}
 use Rattle.obj_file.proofs.StoredWords.{result_words, row_words}
@@ -84,7 +82,7 @@ module _ (reads : List ℕ → Reading) (outers : ℕ) (mode : Mode) where
         let place : f ≡ megabyte_entry_at new.0 = sym also ∙ new.3 in
         let there : ServedAlike (table_made x e) (megabyte_touched z f) = subst (λ (n : ℕ). ServedAlike (table_made x n) (megabyte_touched z f)) (sym new.3) (subst (λ (n : ℕ). ServedAlike (table_made x (megabyte_entry_at new.0)) (megabyte_touched z n)) (sym place) (serves_alike x z new.0 h new.1 new.2)) in
         subst (λ (c : Processor). DeedsAlike (restarted (ground_of reads outers mode) i next s a x (table_made x e)) (restarted (stored_ground reads outers mode) i next (over s y) c z (megabyte_touched z f))) same
-          (served_so a x z (table_made x e) (megabyte_touched z f) regs words h there)
+        (served_so a x z (table_made x e) (megabyte_touched z f) regs words h there)
 
     served_alike : (o : Outcome Tabled Refusal) (p : Outcome Stored Refusal) → OutcomesAlike s.processor.regs o p
         → DeedsAlike (served_or_ended (ground_of reads outers mode) i next s o) (served_or_ended (stored_ground reads outers mode) i next (over s y) p)
@@ -134,12 +132,12 @@ module _ (reads : List ℕ → Reading) (outers : ℕ) (mode : Mode) where
   unfolding asked
   asked_same s y h words out = served_same (service_of (s.processor.regs rax)) s.memory.bytes y.bytes (bytes_judged mode.bare s.processor.rip) (s.processor.regs rdi) (s.processor.regs rsi) (s.processor.regs rdx) s.guest
       (λ is none.
-        let span = service_span (s.processor.regs rsi) (s.processor.regs rdx) in
-        let mine : AllByRecursion (StaysOut mode.bare Syscall s.processor.rip) (read_by Write (s.processor.regs rsi) (s.processor.regs rdx)) =
-          subst (λ (service : Service). AllByRecursion (StaysOut mode.bare Syscall s.processor.rip) (read_by service (s.processor.regs rsi) (s.processor.regs rdx))) is out in
-        let avoids = passed_avoids mode.bare Syscall s.processor.rip span (words.regs_fit rsi, words.regs_fit rdx) mine.0
-          (judged_first (unless_bare mode.bare (access_strays Syscall s.processor.rip span)) (as_unmapped (first_refused_around is_readable (s.processor.regs rdx) (s.processor.regs rsi))) none) in
-        list_at-same (s.processor.regs rdx) s.memory.bytes y.bytes (s.processor.regs rsi) (λ z low high. h.others z (avoided span z avoids low high)))
+      let span = service_span (s.processor.regs rsi) (s.processor.regs rdx) in
+      let mine : AllByRecursion (StaysOut mode.bare Syscall s.processor.rip) (read_by Write (s.processor.regs rsi) (s.processor.regs rdx)) =
+      subst (λ (service : Service). AllByRecursion (StaysOut mode.bare Syscall s.processor.rip) (read_by service (s.processor.regs rsi) (s.processor.regs rdx))) is out in
+      let avoids = passed_avoids mode.bare Syscall s.processor.rip span (words.regs_fit rsi, words.regs_fit rdx) mine.0
+      (judged_first (unless_bare mode.bare (access_strays Syscall s.processor.rip span)) (as_unmapped (first_refused_around is_readable (s.processor.regs rdx) (s.processor.regs rsi))) none) in
+      list_at-same (s.processor.regs rdx) s.memory.bytes y.bytes (s.processor.regs rsi) (λ z low high. h.others z (avoided span z avoids low high)))
 
   answered_alike : (s : State Tabled) (y : Stored) (t : State Tabled) (u : State Stored) (v : Served Stop) → StatesAlike s (over s y) → StatesAlike t u → DeedsAlike (answered s t v) (answered (over s y) u v)
   answered_alike s y t u (Answers word g) old new = record {
@@ -197,8 +195,8 @@ module _ (reads : List ℕ → Reading) (outers : ℕ) (mode : Mode) where
       let parts = both_stay mode.bare i s.processor.rip (accesses i next s.processor.regs) (service_reads i s.processor) out in
       judged_alike (unless_bare mode.bare (reach_strays i s.processor.rip (reach_of (accesses i next s.processor.regs)))) s y _ _ (over_alike s y h words)
       (λ none.
-        let clear = reach_clear mode.bare i s.processor.rip (accesses i next s.processor.regs) (few_accesses i next s.processor.regs ok words.regs_fit) parts.0 none in
-        control_alike i s.processor.rip _ _ (service_alike i s y _ _ h words parts.1 (executed_alike i next ok small s y clear h words)))
+      let clear = reach_clear mode.bare i s.processor.rip (accesses i next s.processor.regs) (few_accesses i next s.processor.regs ok words.regs_fit) parts.0 none in
+      control_alike i s.processor.rip _ _ (service_alike i s y _ _ h words parts.1 (executed_alike i next ok small s y clear h words)))
 
   -- ---- fetching
 
@@ -215,8 +213,8 @@ module _ (reads : List ℕ → Reading) (outers : ℕ) (mode : Mode) where
   reading_same s y h code =
       let low = executable_low s.processor.rip code in
       ap reads (list_at-same (fetched_size s.processor.rip) s.memory.bytes y.bytes s.processor.rip (λ z from to.
-        let close : fetched_size s.processor.rip ≤ 15 = fetched_few (code_end s.processor.rip - s.processor.rip) in
-        h.others z (low_not_of_bounds z (omega arith))))
+      let close : fetched_size s.processor.rip ≤ 15 = fetched_few (code_end s.processor.rip - s.processor.rip) in
+      h.others z (low_not_of_bounds z (omega arith))))
     where
       fetched_few : (n : ℕ) → min n 15 ≤ 15
       fetched_few n = omega arith
@@ -248,8 +246,8 @@ module _ (reads : List ℕ → Reading) (outers : ℕ) (mode : Mode) where
   unfolding event EventStaysOut reading_at
   event_over s y valid h words out =
       elim (is_executable s.processor.rip) as (λ b. is_executable s.processor.rip ≡ b
-        → EventsAlike (cond b (event_by (ground_of reads outers mode) s (reading_at (ground_of reads outers mode) s)) (event_of s false (Halts (stop.Unmapped s.processor.rip) s)))
-          (cond b (event_by (stored_ground reads outers mode) (over s y) (reading_at (stored_ground reads outers mode) (over s y))) (event_of (over s y) false (Halts (stop.Unmapped s.processor.rip) (over s y))))) [
+      → EventsAlike (cond b (event_by (ground_of reads outers mode) s (reading_at (ground_of reads outers mode) s)) (event_of s false (Halts (stop.Unmapped s.processor.rip) s)))
+      (cond b (event_by (stored_ground reads outers mode) (over s y) (reading_at (stored_ground reads outers mode) (over s y))) (event_of (over s y) false (Halts (stop.Unmapped s.processor.rip) (over s y))))) [
         | true ↦ λ code. event_by_alike s y _ _ (reading_same s y h code) (λ i size is. valid _ i size (bytes-list_at (fetched_size s.processor.rip) s.memory.bytes s.processor.rip h.each_byte) is) h words (out code)
         | false ↦ λ code. (refl, refl, over_alike s y h words)
       ] refl

@@ -1,6 +1,5 @@
 -- The example of the store of bounds, computed.
-use Rattle.std.proofs.Common.{◌≡◌, ℕ, zero, suc, ◌+◌, ◌%◌, ◌<◌, ◌≤◌, Bool, true, false, cond, nat_eq, nat_lt, subst, List, [], ◌∷◌, length, refl, ap, ◌∙◌, sym, arith}
-use Rattle.std.specs.Prelude.{IsTrue}
+use Rattle.std.proofs.Common.{◌≡◌, ℕ, ◌<◌, Bool, true, false, cond, nat_eq, nat_lt, subst, List, [], ◌∷◌, length, refl, arith}
 use Rattle.std.specs.List.{All, AllByRecursion, list_all, starts_with}
 use Rattle.std.proofs.lemmas.Bool.Decides.{nat_tests}
 use Rattle.std.proofs.lemmas.Bool.{and_parts}
@@ -18,7 +17,7 @@ use Rattle.x86_forms.specs.Table.{row}
 use Rattle.x86_forms.specs.Validity.{valid_of}
 use Rattle.x86_forms.specs.Watch.{is_watched, is_c_access, first_sealed, access_strays, control_strays, is_in_outer, begins_outer, may_enter, is_legacy_control}
 use Rattle.obj_file.specs.Image.{IsImage, room_at}
-use Rattle.obj_file.specs.Machine.{Reading, Is, Neither, executed, reach_strays, asked, deed_of, reading_at, event}
+use Rattle.obj_file.specs.Machine.{Is, executed, reach_strays, asked, deed_of, reading_at, event}
 use Rattle.obj_file.specs.Runs.{run_within, room, run_of}
 use Rattle.obj_file.specs.Loaded.{tabled_read, tabled_write, tabled_load, tabled_keep, table_made, ground_of, state_at_start, image_run}
 use Rattle.obj_file.specs.Stored.{stored_read, stored_write, is_touched, stored_load, stored_keep, megabyte_touched, stored_at_start, stored_run}
@@ -55,15 +54,18 @@ all_bytes (b ∷ bs) h = let parts = and_parts (nat_lt b 256) (list_all (λ b. n
 
 pub example_is_image : IsImage example_image × HaveBytes example_image.segments
 unfolding room_at
-example_is_image = (record {
-  few_outers = omega arith;
-  few_segments = omega arith;
-  segments = (record { after = omega arith; some = omega arith; within = omega arith }, tt);
-  few_files = omega arith;
-  files = tt;
-  few_places = omega arith;
-  places = tt;
-}, (all_bytes example_bytes refl, tt))
+example_is_image = (
+  record {
+    few_outers = omega arith;
+    few_segments = omega arith;
+    segments = (record { after = omega arith; some = omega arith; within = omega arith }, tt);
+    few_files = omega arith;
+    files = tt;
+    few_places = omega arith;
+    places = tt;
+  },
+  (all_bytes example_bytes refl, tt),
+)
 
 -- ---- its accesses: the push alone makes one
 

@@ -1,19 +1,19 @@
 -- What keeps a memory with the directory and the tables standing for one with a store of bounds: a write elsewhere, an entry that is
 -- stored, and one more table.
-use Rattle.std.proofs.Common.{◌≡◌, ℕ, ◌+◌, ◌/◌, ◌<◌, ◌≤◌, ◌^◌, ◌⊎◌, Bool, true, false, cond, ◌==◌, Option, Some, None, List, [], ◌∷◌, ◌++◌, length, inl, inr, refl, ap, ◌∙◌, sym, subst, arith, length-append}
+use Rattle.std.proofs.Common.{◌≡◌, ℕ, ◌+◌, ◌/◌, ◌<◌, ◌≤◌, ◌^◌, ◌⊎◌, true, false, cond, ◌==◌, Some, None, [], ◌∷◌, ◌++◌, length, inl, inr, ap, ◌∙◌, sym, arith, length-append}
 use Rattle.std.proofs.lemmas.Bool.{cases_lt}
 use Rattle.std.proofs.lemmas.Bool.Decides.{nat_tests}
 use Rattle.mx_base.specs.declared.limits.Bounds.{Bounds}
-use Rattle.mx_base.specs.BoundsStore.{BoundsStore, Kept, granule, with_kept, with_touched, most_tables}
+use Rattle.mx_base.specs.BoundsStore.{BoundsStore, granule, with_kept, with_touched, most_tables}
 use Rattle.mx_base.specs.Memory.{Bytes, AreBytes, number_at, with_number}
-use Rattle.mx_base.specs.Walk.{TableEntry, entry_in, with_entry, entry_for, next_entry}
+use Rattle.mx_base.specs.Walk.{entry_in, with_entry, entry_for, next_entry}
 use Rattle.mx_base.proofs.MemoryLemmas.{number_at-same, AreBytes-with_number}
 use Rattle.obj_file.specs.Loaded.{Tabled, with_bytes}
 use Rattle.obj_file.specs.Stored.{Stored, with_store, is_touched}
-use Rattle.obj_file.specs.StoreLaw.{AreWords, KeepsWords, StandsIn, megabyte_entry_at, directory_entries, bounded_megabytes, table_entries, nth_entry_at, nth_granule, touched_at, is_of_bounds, kept_entry}
-use Rattle.obj_file.proofs.StoredPlaces.{directory_of_bounds, tables_of_bounds, entry_in_tables, entries_before, entries_before_within, granule_parts, granule_same, apart_or_same}
+use Rattle.obj_file.specs.StoreLaw.{AreWords, KeepsWords, StandsIn, megabyte_entry_at, bounded_megabytes, table_entries, nth_entry_at, nth_granule, touched_at, is_of_bounds, kept_entry}
+use Rattle.obj_file.proofs.StoredPlaces.{directory_of_bounds, tables_of_bounds, entry_in_tables, entries_before, granule_parts, granule_same, apart_or_same}
 use Rattle.obj_file.proofs.StoredBytes.{with_number_apart, number_apart, word_back, entry_in-same, entry_of_zeros, with_entry_apart, entry_back, entry_apart, AreBytes-with_entry}
-use Rattle.obj_file.proofs.StoredTouched.{touched_place, not_placed, placed_touched, place_before, place_last, any_more}
+use Rattle.obj_file.proofs.StoredTouched.{not_placed, place_before, place_last, any_more}
 
 pub outside_apart : (low n a : ℕ) → (low ≤ a → a < low + n → ⊥) → (a < low) ⊎ (low + n ≤ a)
 outside_apart low n a none = elim (cases_lt a low) [
@@ -66,8 +66,8 @@ module _ (x : Tabled) (y : Stored) (h : StandsIn x y) (la value k r : ℕ) (b : 
       → entry_in stored_bytes (nth_entry_at j s) ≡ kept_entry (stored_bounds.kept (nth_granule (touched_at y.bounds j) s))
   entry_else j s lower slots other apart =
       let differ : nth_granule (touched_at y.bounds j) s ≡ granule la → ⊥ = λ e.
-          let same = granule_same (touched_at y.bounds j) s (touched_at y.bounds k) r slots slot (e ∙ here) in
-          other (h.distinct j k lower low same.0) same.1 in
+      let same = granule_same (touched_at y.bounds j) s (touched_at y.bounds k) r slots slot (e ∙ here) in
+      other (h.distinct j k lower low same.0) same.1 in
       entry_apart x.bytes (nth_entry_at j s) (nth_entry_at k r) (entry_for value b) apart ∙ h.entries j s lower slots
       ∙ ap kept_entry (sym (kept_else y.bounds la value (nth_granule (touched_at y.bounds j) s) b differ))
 
@@ -84,9 +84,9 @@ module _ (x : Tabled) (y : Stored) (h : StandsIn x y) (la value k r : ℕ) (b : 
       apart_or_same j k
       (λ below. entry_else j s lower slots (λ e f. absurd (omega arith)) (inl (entries_before j s k r slots slot below)))
       (λ e. apart_or_same s r
-        (λ below. entry_else j s lower slots (λ g f. absurd (omega arith)) (inl (omega arith)))
-        (λ f. entry_here j s e f)
-        (λ above. entry_else j s lower slots (λ g f. absurd (omega arith)) (inr (omega arith))))
+      (λ below. entry_else j s lower slots (λ g f. absurd (omega arith)) (inl (omega arith)))
+      (λ f. entry_here j s e f)
+      (λ above. entry_else j s lower slots (λ g f. absurd (omega arith)) (inr (omega arith))))
       (λ above. entry_else j s lower slots (λ e f. absurd (omega arith)) (inr (entries_before k r j s slot slots above)))
 
   unkept_else : (g : ℕ) → is_touched y.bounds (g / table_entries) ≡ false → stored_bounds.kept g ≡ None
@@ -100,7 +100,7 @@ module _ (x : Tabled) (y : Stored) (h : StandsIn x y) (la value k r : ℕ) (b : 
       let few = h.few in
       let end = entry_in_tables k r (omega arith) slot in
       with_entry_apart x.bytes (nth_entry_at k r) a (entry_for value b) (outside_apart (nth_entry_at k r) 24 a (λ from to.
-        let inside = tables_of_bounds a (omega arith) (omega arith) in absurd (cc)))
+      let inside = tables_of_bounds a (omega arith) (omega arith) in absurd (cc)))
       ∙ h.others a out
 
   pub stands_kept : StandsIn (with_bytes x (with_entry x.bytes (nth_entry_at k r) (entry_for value b))) (with_store y (with_kept y.bounds la value b))
@@ -179,10 +179,10 @@ module _ (x : Tabled) (y : Stored) (h : StandsIn x y) (m : ℕ) (bounded : m < b
   entries_more k r low slot = each_place k low
       (λ below e. entry_in-same more_bytes x.bytes (nth_entry_at k r) (λ z from to. bytes_behind z (omega arith)) ∙ h.entries k r below slot ∙ ap (λ j. kept_entry (y.bounds.kept (nth_granule j r))) (sym e))
       (λ last e.
-        let end = entry_in_tables k r (omega arith) slot in
-        let empty : y.bounds.kept (nth_granule m r) ≡ None = h.unkept (nth_granule m r) (ap (is_touched y.bounds) (granule_parts m r slot) ∙ none) in
-        entry_of_zeros more_bytes (nth_entry_at k r) (λ z from to. bytes_behind z (omega arith) ∙ h.unmade z (omega arith) (omega arith))
-        ∙ sym (ap kept_entry (ap (λ j. y.bounds.kept (nth_granule j r)) e ∙ empty)))
+      let end = entry_in_tables k r (omega arith) slot in
+      let empty : y.bounds.kept (nth_granule m r) ≡ None = h.unkept (nth_granule m r) (ap (is_touched y.bounds) (granule_parts m r slot) ∙ none) in
+      entry_of_zeros more_bytes (nth_entry_at k r) (λ z from to. bytes_behind z (omega arith) ∙ h.unmade z (omega arith) (omega arith))
+      ∙ sym (ap kept_entry (ap (λ j. y.bounds.kept (nth_granule j r)) e ∙ empty)))
 
   others_more : (a : ℕ) → is_of_bounds a ≡ false → more_bytes a ≡ y.bytes a
   others_more a out = with_number_apart 8 x.bytes (megabyte_entry_at m) (next_entry x.made) a (outside_apart (megabyte_entry_at m) 8 a (λ from to.

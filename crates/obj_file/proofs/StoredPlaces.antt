@@ -1,10 +1,9 @@
 -- Where directory entries and table entries stand: each in its region, and no two of them share a byte.
-use Rattle.std.proofs.Common.{◌≡◌, ℕ, ◌+◌, ◌*◌, ◌/◌, ◌%◌, ◌<◌, ◌≤◌, ◌⊎◌, Bool, true, false, inl, inr, refl, arith}
+use Rattle.std.proofs.Common.{◌≡◌, ℕ, ◌+◌, ◌/◌, ◌%◌, ◌<◌, ◌≤◌, Bool, true, false, inl, inr, arith}
 use Rattle.std.proofs.lemmas.Bool.{cases_order}
 use Rattle.std.proofs.lemmas.Bool.Decides.{nat_tests}
-use Rattle.mx_base.specs.Bounds.{moved}
 use Rattle.mx_base.specs.BoundsStore.{granule, megabyte, most_tables}
-use Rattle.mx_base.specs.Regions.{is_readable, is_writable, is_executable, region_end, tables, is_in, instrumented_code, legacy_code}
+use Rattle.mx_base.specs.Regions.{is_readable, is_writable, region_end, tables}
 use Rattle.mx_base.specs.Walk.{directory_entry_at, table_entry_at, is_valid_entry, next_entry, walk_end}
 use Rattle.obj_file.specs.Loaded.{configuration}
 use Rattle.obj_file.specs.StoreLaw.{megabyte_entry_at, directory_entries, bounded_megabytes, table_entries, nth_entry_at, nth_granule, is_of_bounds}

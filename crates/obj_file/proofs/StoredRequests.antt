@@ -1,22 +1,22 @@
 -- Each request is answered alike by a memory with the directory and the tables and by one with a store of bounds, if one stands for the
 -- other and reads and writes leave the directory and the tables to walks.
-use Rattle.std.proofs.Common.{◌≡◌, ℕ, zero, suc, ◌+◌, ◌-◌, ◌/◌, ◌%◌, ◌<◌, ◌≤◌, ◌^◌, ◌⊎◌, min, Bool, true, false, cond, ◌==◌, nat_lt, Option, Some, None, List, [], ◌∷◌, ◌++◌, length, inl, inr, refl, ap, ◌∙◌, sym, subst, arith}
+use Rattle.std.proofs.Common.{◌≡◌, ℕ, ◌+◌, ◌-◌, ◌%◌, ◌<◌, ◌≤◌, ◌^◌, Bool, true, false, cond, ◌==◌, Option, Some, None, List, [], ◌∷◌, ◌++◌, length, inl, inr, refl, ap, ◌∙◌, sym, subst, arith}
 use Rattle.std.specs.Prelude.{Result, Ok, Err, ⊤}
 use Rattle.std.specs.Option.{option_map}
 use Rattle.std.proofs.lemmas.Bool.{cases_lt, cases_Bool, lt-ltb, le-ltb}
 use Rattle.std.proofs.lemmas.Bool.Decides.{nat_tests}
 use Rattle.mx_base.specs.declared.limits.Bounds.{Bounds}
 use Rattle.mx_base.specs.Bounds.{moved, complement, full_bounds}
-use Rattle.mx_base.specs.BoundsStore.{BoundsStore, Kept, granule, megabyte, with_kept, with_touched, touched_with, touch, most_tables, bounds_for}
+use Rattle.mx_base.specs.BoundsStore.{BoundsStore, Kept, granule, megabyte, with_kept, with_touched, touched_with, most_tables, bounds_for}
 use Rattle.mx_base.specs.Memory.{Bytes, number_at, with_number, first_refused}
-use Rattle.mx_base.specs.Regions.{is_readable, is_writable, region_end, tables, directory}
-use Rattle.mx_base.specs.Walk.{Walked, Beyond, Invalid as NoTable, Stands, walk, walk_by, walk_end, is_valid_entry, directory_entry_at, table_entry_at, TableEntry, entry_in, with_entry, entry_for, entry_size, bounds_in, next_entry, with_next_table}
+use Rattle.mx_base.specs.Regions.{is_readable, is_writable}
+use Rattle.mx_base.specs.Walk.{Beyond, Invalid as NoTable, Stands, walk, walk_by, walk_end, directory_entry_at, table_entry_at, entry_in, with_entry, entry_for, entry_size, bounds_in, next_entry, with_next_table}
 use Rattle.mx_base.proofs.MemoryLemmas.{number_at-same, first_refused-all, AreBytes-with_number}
 use Rattle.x86_forms.specs.declared.spans.Span.{Span}
 use Rattle.obj_file.specs.Machine.{Refusal, Misses, Invalid}
-use Rattle.obj_file.specs.Loaded.{Tabled, with_bytes, unless_missing, at_walked, configuration, tabled_read, tabled_write, tabled_load, tabled_keep, table_made}
-use Rattle.obj_file.specs.Stored.{Stored, with_store, is_touched, unless_untouched, stored_read, stored_write, stored_load, stored_keep, address_of_entry, megabyte_touched}
-use Rattle.obj_file.specs.StoreLaw.{AreWords, KeepsWords, StandsIn, megabyte_entry_at, directory_entries, bounded_megabytes, table_entries, nth_entry_at, nth_granule, touched_at, is_of_bounds, kept_entry, AvoidsBounds}
+use Rattle.obj_file.specs.Loaded.{Tabled, with_bytes, unless_missing, at_walked, configuration, tabled_read, tabled_load, tabled_keep, table_made}
+use Rattle.obj_file.specs.Stored.{Stored, with_store, is_touched, unless_untouched, stored_read, stored_load, stored_keep, address_of_entry, megabyte_touched}
+use Rattle.obj_file.specs.StoreLaw.{AreWords, KeepsWords, StandsIn, megabyte_entry_at, bounded_megabytes, table_entries, nth_entry_at, nth_granule, touched_at, is_of_bounds, kept_entry, AvoidsBounds}
 use Rattle.obj_file.proofs.StoredPlaces.{megabyte_bounded, entry_of_megabyte, next_entry_valid, slot_of, slot_below, entry_of_slot, granule_of_slot, entry_in_tables, tables_readable, tables_writable, far_not_of_bounds}
 use Rattle.obj_file.proofs.StoredBytes.{with_number_apart, with_number_both}
 use Rattle.obj_file.proofs.StoredTouched.{touched_place}
@@ -163,15 +163,15 @@ unfolding tabled_load stored_load
 loads_alike x y preserve la value h = walks_alike x y h preserve la LoadsAlike
     (λ at. unless_missing (first_refused is_readable entry_size at) (bounds_in value (entry_in x.bytes at), x)) (bounds_for value (y.bounds.kept (granule la)), y)
     (λ k low here.
-      let few = h.few in
-      let granules : y.bounds.kept (nth_granule (touched_at y.bounds k) (slot_of la)) ≡ y.bounds.kept (granule la) = ap y.bounds.kept (ap (λ m. nth_granule m (slot_of la)) here ∙ sym (granule_of_slot la)) in
-      let entry : entry_in x.bytes (nth_entry_at k (slot_of la)) ≡ kept_entry (y.bounds.kept (granule la)) = h.entries k (slot_of la) low (slot_below la) ∙ ap kept_entry granules in
-      let words = h.words (granule la) in
-      let same : bounds_in value (entry_in x.bytes (nth_entry_at k (slot_of la))) ≡ bounds_for value (y.bounds.kept (granule la)) = ap (bounds_in value) entry ∙ bounds_of_entry value (y.bounds.kept (granule la)) words in (
-        (bounds_in value (entry_in x.bytes (nth_entry_at k (slot_of la))), x),
-        ap (λ o. unless_missing o (bounds_in value (entry_in x.bytes (nth_entry_at k (slot_of la))), x)) (entry_readable k (slot_of la) (omega arith) (slot_below la)),
-        (same, h, subst AreWords (sym same) (bounds_for_words value (y.bounds.kept (granule la)) words)),
-      ))
+    let few = h.few in
+    let granules : y.bounds.kept (nth_granule (touched_at y.bounds k) (slot_of la)) ≡ y.bounds.kept (granule la) = ap y.bounds.kept (ap (λ m. nth_granule m (slot_of la)) here ∙ sym (granule_of_slot la)) in
+    let entry : entry_in x.bytes (nth_entry_at k (slot_of la)) ≡ kept_entry (y.bounds.kept (granule la)) = h.entries k (slot_of la) low (slot_below la) ∙ ap kept_entry granules in
+    let words = h.words (granule la) in
+    let same : bounds_in value (entry_in x.bytes (nth_entry_at k (slot_of la))) ≡ bounds_for value (y.bounds.kept (granule la)) = ap (bounds_in value) entry ∙ bounds_of_entry value (y.bounds.kept (granule la)) words in (
+      (bounds_in value (entry_in x.bytes (nth_entry_at k (slot_of la))), x),
+      ap (λ o. unless_missing o (bounds_in value (entry_in x.bytes (nth_entry_at k (slot_of la))), x)) (entry_readable k (slot_of la) (omega arith) (slot_below la)),
+      (same, h, subst AreWords (sym same) (bounds_for_words value (y.bounds.kept (granule la)) words)),
+    ))
 
 pub keeps_alike : (x : Tabled) (y : Stored) (preserve : Bool) (la value : ℕ) (b : Bounds) → StandsIn x y → value < 2 ^ 64 → AreWords b
     → AnswersAlike StandsIn (IsWanting y) (tabled_keep (configuration preserve) x la value b) (stored_keep (configuration preserve) y la value b)
@@ -179,12 +179,12 @@ unfolding tabled_keep stored_keep
 keeps_alike x y preserve la value b h small words = walks_alike x y h preserve la StandsIn
     (λ at. unless_missing (first_refused is_writable entry_size at) (with_bytes x (with_entry x.bytes at (entry_for value b)))) (with_store y (with_kept y.bounds la value b))
     (λ k low here.
-      let few = h.few in
-      let place : granule la ≡ nth_granule (touched_at y.bounds k) (slot_of la) = granule_of_slot la ∙ ap (λ m. nth_granule m (slot_of la)) (sym here) in (
-        with_bytes x (with_entry x.bytes (nth_entry_at k (slot_of la)) (entry_for value b)),
-        ap (λ o. unless_missing o (with_bytes x (with_entry x.bytes (nth_entry_at k (slot_of la)) (entry_for value b)))) (entry_writable k (slot_of la) (omega arith) (slot_below la)),
-        stands_kept x y h la value k (slot_of la) b low (slot_below la) place small words,
-      ))
+    let few = h.few in
+    let place : granule la ≡ nth_granule (touched_at y.bounds k) (slot_of la) = granule_of_slot la ∙ ap (λ m. nth_granule m (slot_of la)) (sym here) in (
+      with_bytes x (with_entry x.bytes (nth_entry_at k (slot_of la)) (entry_for value b)),
+      ap (λ o. unless_missing o (with_bytes x (with_entry x.bytes (nth_entry_at k (slot_of la)) (entry_for value b)))) (entry_writable k (slot_of la) (omega arith) (slot_below la)),
+      stands_kept x y h la value k (slot_of la) b low (slot_below la) place small words,
+    ))
 
 -- ---- the runtime
 

@@ -1,6 +1,6 @@
 -- Each instruction ends alike over a memory with the directory and the tables and over one with a store of bounds, if one stands for the
 -- other and its accesses leave the directory and the tables to walks.
-use Rattle.std.proofs.Common.{◌≡◌, ℕ, ◌+◌, ◌<◌, ◌≤◌, ◌^◌, Bool, Option, Some, None, List, [], ◌∷◌, refl, ap, ◌∙◌, sym, subst, arith}
+use Rattle.std.proofs.Common.{◌≡◌, ℕ, Bool, Option, Some, None, List, [], ◌∷◌, refl, ap, subst}
 use Rattle.std.specs.Prelude.{Result, Ok, Err, ⊤}
 use Rattle.mx_base.specs.declared.limits.Bounds.{Bounds}
 use Rattle.mx_base.specs.Memory.{number_at, with_number, first_refused}
@@ -10,12 +10,12 @@ use Rattle.x86_forms.specs.declared.spans.Span.{Span}
 use Rattle.x86_forms.specs.Processor.{Processor}
 use Rattle.x86_forms.specs.Requests.{Program, Ends, Fails, Reads, Writes, Loads, Keeps, Outcome, Done, Failed, Refused, run, refused_with, either_way}
 use Rattle.x86_forms.specs.TableLaws.{AsksFor, read_span, write_span}
-use Rattle.obj_file.specs.Machine.{Refusal, Misses, Invalid}
+use Rattle.obj_file.specs.Machine.{Refusal}
 use Rattle.obj_file.specs.Loaded.{Tabled, with_bytes, unless_missing, configuration, status_after, tabled_read, tabled_write, tabled_store}
 use Rattle.obj_file.specs.Stored.{Stored, stored_read, stored_write, stored_store}
 use Rattle.obj_file.specs.StoreLaw.{AreWords, HoldsWords, StandsIn, AvoidsBounds}
 use Rattle.obj_file.proofs.StoredPlaces.{writable_readable}
-use Rattle.obj_file.proofs.StoredRequests.{avoided, reads_alike, written_stands, AnswersAlike, IsWanting, LoadsAlike, loads_alike, keeps_alike}
+use Rattle.obj_file.proofs.StoredRequests.{reads_alike, written_stands, AnswersAlike, IsWanting, LoadsAlike, loads_alike, keeps_alike}
 use Rattle.obj_file.proofs.StoredWords.{KeepWords}
 
 -- each access avoids the directory and the tables, as far as those before it are done
@@ -101,7 +101,7 @@ module _ (preserve : Bool) (c : Processor) (words : HoldsWords c) where
       let first : First rest (write_span at size implicit) = subst (First rest) asks.0 out in
       after_write x (with_bytes x (with_number size x.bytes at value)) y (record { bytes = with_number size y.bytes at value; bounds = y.bounds }) (first_refused is_writable size at) next h
       (λ none. runs_alike next rest (with_bytes x (with_number size x.bytes at value)) (record { bytes = with_number size y.bytes at value; bounds = y.bounds }) asks.1
-        (first.1 (written_readable size at none)) keep (written_stands x y (write_span at size implicit) value h first.0))
+      (first.1 (written_readable size at none)) keep (written_stands x y (write_span at size implicit) value h first.0))
   runs_alike (Loads at value next) spans x y asks out keep h =
       after_load x y _ _ next (loads_alike x y preserve at value h) h (λ z u v small s. runs_alike (next z) spans u v (asks z) out (keep z small) s)
   runs_alike (Keeps at value b next) spans x y asks out keep h =

@@ -1,14 +1,12 @@
 -- Runs end alike over the walk and over the store of bounds, and make the same accesses for C.
-use Rattle.std.proofs.Common.{◌≡◌, ℕ, zero, suc, ◌<◌, Bool, true, false, cond, List, [], ◌∷◌, ◌++◌, refl, ap, ◌∙◌, sym, subst}
-use Rattle.std.specs.Prelude.{⊤}
-use Rattle.std.proofs.lemmas.Bool.{cases_Bool}
+use Rattle.std.proofs.Common.{◌≡◌, ℕ, zero, suc, Bool, true, false, cond, List, ◌++◌, refl, ap, ◌∙◌, sym, subst}
 use Rattle.mx_base.specs.declared.stops.Stop.{Stop}
 use Rattle.mx_base.specs.declared.stops.Stop.TheVariants as stop
 use Rattle.mx_base.specs.Regions.{is_executable}
 use Rattle.mx_base.specs.World.{Access}
 use Rattle.x86_forms.specs.Processor.{Processor}
 use Rattle.obj_file.specs.Machine.{Reading, Ground, State, Halts, Event, Goes, Stops, event, event_of, event_by, reading_at}
-use Rattle.obj_file.specs.Runs.{End, Out, Stopped, after, run_within, room, run_of, c_accesses_by, and_later, accesses_within, accesses_of}
+use Rattle.obj_file.specs.Runs.{End, after, run_within, room, run_of, c_accesses_by, and_later, accesses_within, accesses_of}
 use Rattle.obj_file.specs.Loaded.{Tabled, Mode, ground_of}
 use Rattle.obj_file.specs.Stored.{Stored, stored_ground}
 use Rattle.obj_file.specs.StoreLaw.{StandsIn, StatesAlike, EventsAlike, EndsAlike, ReadsValid, ReadingStaysOut, EventStaysOut, Later, StaysOutWithin, RunStaysOut}
@@ -138,17 +136,17 @@ module _ (reads : List ℕ → Reading) (outers : ℕ) (mode : Mode) (valid : Re
   unfolding event
   fetched_same turns n s y h = elim (is_executable s.processor.rip) as (λ b. is_executable s.processor.rip ≡ b
       → and_later (accesses_within gs n) turns (c_accesses_by s (reading_at gt s)) (cond b (event_by gs (over s y) (reading_at gs (over s y))) (event_of (over s y) false (Halts (stop.Unmapped s.processor.rip) (over s y))))
-        ≡ and_later (accesses_within gs n) turns (c_accesses_by (over s y) (reading_at gs (over s y))) (cond b (event_by gs (over s y) (reading_at gs (over s y))) (event_of (over s y) false (Halts (stop.Unmapped s.processor.rip) (over s y))))) [
-      | true ↦ λ code. ap (λ (r : Reading). and_later (accesses_within gs n) turns (c_accesses_by s r) (event_by gs (over s y) (reading_at gs (over s y)))) (reading_same reads outers mode s y h code)
-      | false ↦ λ code. refl
-    ] refl
+      ≡ and_later (accesses_within gs n) turns (c_accesses_by (over s y) (reading_at gs (over s y))) (cond b (event_by gs (over s y) (reading_at gs (over s y))) (event_of (over s y) false (Halts (stop.Unmapped s.processor.rip) (over s y))))) [
+        | true ↦ λ code. ap (λ (r : Reading). and_later (accesses_within gs n) turns (c_accesses_by s r) (event_by gs (over s y) (reading_at gs (over s y)))) (reading_same reads outers mode s y h code)
+        | false ↦ λ code. refl
+      ] refl
 
   accesses_same : (n turns : ℕ) (s : State Tabled) (t : State Stored) → StatesAlike s t → StaysOutWithin gt n turns s → accesses_within gt n turns s ≡ accesses_within gs n turns t
   unfolding accesses_within StaysOutWithin
   accesses_same zero turns s t h out = refl
   accesses_same (suc n) turns s t h out = from_over (λ u. EventsAlike (event gt s) (event gs u) → accesses_within gt (suc n) turns s ≡ accesses_within gs (suc n) turns u) s t h
       (λ both. and_later_same n turns (c_accesses_by s (reading_at gt s)) (event gt s) (event gs (over s t.memory)) (λ left p q alike more. accesses_same n left p q alike more) both out.1
-        ∙ fetched_same turns n s t.memory h.memory) (event_alike reads outers mode s t valid h out.0)
+      ∙ fetched_same turns n s t.memory h.memory) (event_alike reads outers mode s t valid h out.0)
 
   pub same_accesses : (turns : ℕ) (s : State Tabled) (t : State Stored) → StatesAlike s t → RunStaysOut (ground_of reads outers mode) turns s
       → accesses_of (ground_of reads outers mode) turns s ≡ accesses_of (stored_ground reads outers mode) turns t

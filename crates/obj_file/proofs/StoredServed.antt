@@ -1,16 +1,15 @@
 -- Requests to the memory with a store of bounds, with their serving, are the loads and keeps of the store; and what the walk finds.
-use Rattle.std.proofs.Common.{◌≡◌, ℕ, ◌+◌, ◌*◌, ◌/◌, ◌<◌, ◌≤◌, Bool, true, false, cond, Option, Some, None, List, [], ◌∷◌, ◌++◌, length, inl, inr, refl, ap, ◌∙◌, sym, subst, arith, length-append}
-use Rattle.std.specs.Prelude.{Result, Ok, Err}
+use Rattle.std.proofs.Common.{◌≡◌, ℕ, ◌/◌, ◌<◌, ◌≤◌, Bool, true, false, Option, Some, None, [], ◌∷◌, ◌++◌, length, inl, inr, refl, ap, ◌∙◌, sym, arith, length-append}
+use Rattle.std.specs.Prelude.{Result, Err}
 use Rattle.std.specs.Option.{option_map}
 use Rattle.std.proofs.lemmas.Bool.{cases_lt, cases_Bool}
 use Rattle.mx_base.specs.declared.limits.Bounds.{Bounds}
 use Rattle.mx_base.specs.BoundsStore.{BoundsStore, Kept, granule, megabyte, with_kept, with_touched, touched_with, touch, most_tables, bounds_for, load_bounds, keep_bounds}
-use Rattle.mx_base.specs.Memory.{Bytes}
 use Rattle.mx_base.specs.Walk.{Stands, walk, walk_end, entry_in, entry_for}
-use Rattle.obj_file.specs.Machine.{Refusal, Misses, Invalid}
+use Rattle.obj_file.specs.Machine.{Refusal, Misses}
 use Rattle.obj_file.specs.Loaded.{Tabled, configuration}
-use Rattle.obj_file.specs.Stored.{Stored, with_store, is_touched, unless_untouched, stored_load, stored_keep, megabyte_touched, done_or, once_more, with_serving}
-use Rattle.obj_file.specs.StoreLaw.{StandsIn, megabyte_entry_at, table_entries, nth_granule, nth_entry_at, touched_at, kept_entry}
+use Rattle.obj_file.specs.Stored.{Stored, with_store, is_touched, unless_untouched, stored_load, stored_keep, done_or, once_more, with_serving}
+use Rattle.obj_file.specs.StoreLaw.{StandsIn, table_entries, nth_granule, nth_entry_at, touched_at, kept_entry}
 use Rattle.obj_file.proofs.StoredPlaces.{slot_of, slot_below, granule_of_slot, granule_parts}
 use Rattle.obj_file.proofs.StoredTouched.{placed_touched, place_last, touched_place}
 use Rattle.obj_file.proofs.StoredRequests.{store_far, store_touched, store_untouched, touched_new, touched_full, megabyte_served, walk_touched}
@@ -90,10 +89,10 @@ pub kept_stands : (x : Tabled) (y : Stored) (preserve : Bool) (la : ℕ) (k : Ke
     → (at : ℕ) × (walk x.bytes (configuration preserve) la ≡ Stands at) × (entry_in x.bytes at ≡ entry_for k.value k.bounds)
 kept_stands x y preserve la k h near is = elim (cases_Bool (is_touched y.bounds (megabyte la))) [
   | inl some ↦
-    let place = touched_place y.bounds (megabyte la) some in
-    let made = h.made in
-    let low : place.0 < x.made = omega (arith, place.1) in
-    let granules : y.bounds.kept (nth_granule (touched_at y.bounds place.0) (slot_of la)) ≡ y.bounds.kept (granule la) = ap y.bounds.kept (ap (λ m. nth_granule m (slot_of la)) place.2 ∙ sym (granule_of_slot la)) in
-    (nth_entry_at place.0 (slot_of la), walk_touched x y preserve la place.0 h near low place.2, h.entries place.0 (slot_of la) low (slot_below la) ∙ ap kept_entry (granules ∙ is))
+      let place = touched_place y.bounds (megabyte la) some in
+      let made = h.made in
+      let low : place.0 < x.made = omega (arith, place.1) in
+      let granules : y.bounds.kept (nth_granule (touched_at y.bounds place.0) (slot_of la)) ≡ y.bounds.kept (granule la) = ap y.bounds.kept (ap (λ m. nth_granule m (slot_of la)) place.2 ∙ sym (granule_of_slot la)) in
+      (nth_entry_at place.0 (slot_of la), walk_touched x y preserve la place.0 h near low place.2, h.entries place.0 (slot_of la) low (slot_below la) ∙ ap kept_entry (granules ∙ is))
   | inr none ↦ let nothing = h.unkept (granule la) (ap (is_touched y.bounds) (granule_megabyte la) ∙ none) in absurd (cc)
 ]

@@ -1,10 +1,10 @@
 -- The accesses of a valid instruction: at most two, each at an address and of a size of 64 bits; and those of them that stay out of the
 -- directory and the tables.
-use Rattle.std.proofs.Common.{◌≡◌, ℕ, zero, suc, inl, inr, min, ◌+◌, ◌-◌, ◌/◌, ◌<◌, ◌≤◌, ◌^◌, Bool, true, false, cond, nat_lt, ◌&&◌, not, Option, Some, None, List, [], ◌∷◌, ◌++◌, refl, ap, ◌∙◌, sym, subst, arith}
+use Rattle.std.proofs.Common.{◌≡◌, ℕ, zero, suc, inl, inr, min, ◌+◌, ◌-◌, ◌<◌, ◌≤◌, ◌^◌, Bool, true, false, nat_lt, Option, Some, None, List, [], ◌∷◌, refl, ◌∙◌, subst, arith}
 use Rattle.std.specs.Prelude.{⊤, if◌then◌else◌}
 use Rattle.std.specs.List.{AllByRecursion}
 use Rattle.std.specs.Option.{option_or}
-use Rattle.std.proofs.lemmas.Bool.{and_parts, cases_Bool, and_cases}
+use Rattle.std.proofs.lemmas.Bool.{and_parts, cases_Bool}
 use Rattle.std.proofs.lemmas.Bool.Decides.{nat_tests}
 use Rattle.mx_base.specs.Bounds.{addresses, moved}
 use Rattle.mx_base.specs.Memory.{first_refused, first_refused_around}
@@ -16,11 +16,10 @@ use Rattle.x86_forms.specs.declared.instr.Rm.{Rm}
 use Rattle.x86_forms.specs.declared.instr.Rm.TheVariants.{Reg as InReg, Mem as InMem}
 use Rattle.x86_forms.specs.declared.instr.Instr.TheVariants.{MovTo, MovFrom, MovMemImm, MovImm, Movsxd, Movzx, Movsx, Lea, AluTo, AluFrom, AluImm, Test as TestRm, Imul as ImulRm, One, Wide, ShiftCl, ShiftImm, Set, Push, Pop, CallRel, JmpRel, CallRm, JmpRm, Jcc, Ret, Syscall, Ud2, Nop, Bndmk, Bndcl, Bndcu, Bndcn, BndmovTo, BndmovFrom, Bndldx, Bndstx}
 use Rattle.x86_forms.specs.declared.spans.Span.{Span}
-use Rattle.x86_forms.specs.Accesses.{accesses, reach_of, operand_reads, operand_writes, operand_changes, call_accesses, span, push, pop}
-use Rattle.x86_forms.specs.Processor.{address, bytes_in, rsp, below_stack}
+use Rattle.x86_forms.specs.Accesses.{accesses, reach_of, operand_reads, operand_writes, operand_changes, call_accesses, span, push}
+use Rattle.x86_forms.specs.Processor.{address, rsp}
 use Rattle.x86_forms.specs.Validity.{valid_of, width_ok, word_ok, narrow_ok}
-use Rattle.x86_forms.specs.Watch.{is_watched, first_sealed, access_strays}
-use Rattle.x86_forms.specs.WatchLaws.{HasNoSealedByte}
+use Rattle.x86_forms.specs.Watch.{is_watched, access_strays}
 use Rattle.x86_forms.proofs.WatchFirst.{access-fine}
 use Rattle.obj_file.specs.Machine.{unless_bare, span_strays, is_all, is_read, reach_strays}
 use Rattle.obj_file.specs.StoreLaw.{AvoidsBounds, StaysOut, is_of_bounds}

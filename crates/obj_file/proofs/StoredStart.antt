@@ -1,10 +1,10 @@
 -- The machine at its start: an image's segments lie before the directory and the tables, and its registers hold words.
-use Rattle.std.proofs.Common.{◌≡◌, ℕ, ◌+◌, ◌-◌, ◌<◌, ◌≤◌, ◌^◌, Bool, true, false, cond, nat_eq, None, List, [], ◌∷◌, ◌++◌, length, refl, ap, ◌∙◌, sym, arith}
-use Rattle.std.specs.List.{All, AllByRecursion}
+use Rattle.std.proofs.Common.{◌≡◌, ℕ, ◌+◌, ◌<◌, ◌≤◌, ◌^◌, Bool, true, false, cond, nat_eq, None, List, [], ◌∷◌, length, refl, ◌∙◌, arith}
+use Rattle.std.specs.List.{All}
 use Rattle.std.proofs.lemmas.List.Elements.{All-head, All-tail}
 use Rattle.std.proofs.lemmas.Bool.Decides.{nat_tests}
 use Rattle.mx_base.specs.Memory.{Bytes, AreBytes, no_bytes, with_list, with_byte}
-use Rattle.mx_base.specs.Regions.{region_end, control_stack, tables}
+use Rattle.mx_base.specs.Regions.{region_end, control_stack}
 use Rattle.mx_base.proofs.MemoryLemmas.{with_list_above, AreBytes-with_byte}
 use Rattle.x86_forms.specs.Processor.{rsp}
 use Rattle.obj_file.specs.declared.image.Image.{Image}
@@ -13,7 +13,7 @@ use Rattle.obj_file.specs.Image.{room_at, segment_end, IsSegment, IsImage}
 use Rattle.obj_file.specs.InTurn.{InTurn}
 use Rattle.obj_file.specs.Loaded.{with_segments, processor_at_start, state_at_start}
 use Rattle.obj_file.specs.Stored.{stored_at_start}
-use Rattle.obj_file.specs.StoreLaw.{HoldsWords, StandsIn, StatesAlike, HaveBytes, megabyte_entry_at, nth_entry_at}
+use Rattle.obj_file.specs.StoreLaw.{HoldsWords, StandsIn, StatesAlike, HaveBytes, megabyte_entry_at}
 use Rattle.obj_file.proofs.StoredBytes.{number_of_zeros}
 
 room_end : (at n : ℕ) → 1 ≤ n → n ≤ room_at at → at + n ≤ 0x2100_0000

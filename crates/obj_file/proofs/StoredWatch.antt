@@ -1,5 +1,5 @@
 -- Of the accesses that the watch judges nothing is asked.
-use Rattle.std.proofs.Common.{◌≡◌, ℕ, Bool, true, false, not, ◌&&◌, ◌||◌, List, [], ◌∷◌, ◌++◌, refl, ap, ◌∙◌, sym, subst}
+use Rattle.std.proofs.Common.{◌≡◌, ℕ, Bool, true, false, ◌||◌, List, [], ◌∷◌, ◌++◌, ap, sym, subst}
 use Rattle.std.specs.List.{AllByRecursion}
 use Rattle.x86_forms.specs.declared.instr.Instr.{Instr}
 use Rattle.x86_forms.specs.declared.spans.Span.{Span}

@@ -1,10 +1,8 @@
 -- Valid instructions leave words in registers and bounds registers, and keep no others.
-use Rattle.std.proofs.Common.{◌≡◌, ℕ, ◌+◌, ◌-◌, ◌%◌, ◌<◌, ◌≤◌, ◌^◌, ◌⊎◌, Bool, true, false, cond, ◌==◌, ◌||◌, ◌&&◌, nat_lt, nat_eq, Option, Some, None, inl, inr, refl, ap, ◌∙◌, sym, subst, arith}
-use Rattle.std.specs.Prelude.{IsTrue}
+use Rattle.std.proofs.Common.{◌≡◌, ℕ, ◌<◌, ◌^◌, Bool, true, false, cond, ◌==◌, ◌||◌, ◌&&◌, nat_eq, Option, Some, None, inl, inr, refl, sym, subst, arith}
 use Rattle.std.proofs.lemmas.Bool.{and_parts, or_cases, cond_both}
 use Rattle.std.proofs.lemmas.Bool.Decides.{nat_tests}
 use Rattle.mx_base.specs.declared.limits.Bounds.{Bounds}
-use Rattle.mx_base.specs.Bounds.{complement}
 use Rattle.x86_forms.specs.declared.instr.Instr.{Instr}
 use Rattle.x86_forms.specs.declared.instr.Reg.{Reg}
 use Rattle.x86_forms.specs.declared.instr.Base.{Base}
@@ -14,11 +12,11 @@ use Rattle.x86_forms.specs.declared.instr.Rm.{Rm}
 use Rattle.x86_forms.specs.declared.instr.Rm.TheVariants.{Reg as InReg, Mem as InMem}
 use Rattle.x86_forms.specs.declared.instr.Instr.TheVariants.{MovTo, MovFrom, MovMemImm, MovImm, Movsxd, Movzx, Movsx, Lea, AluTo, AluFrom, AluImm, Test as TestRm, Imul as ImulRm, One, Wide, ShiftCl, ShiftImm, Set, Push, Pop, CallRel, JmpRel, CallRm, JmpRm, Jcc, Ret, Syscall, Ud2, Nop, Bndmk, Bndcl, Bndcu, Bndcn, BndmovTo, BndmovFrom, Bndldx, Bndstx}
 use Rattle.x86_forms.specs.Arithmetic.{Operation, Not, Neg, Test, Imul, low, writes_result, result_of, divided, divided_signed}
-use Rattle.x86_forms.specs.Processor.{Processor, rax, rdx, rsp, part_written, base_value, index_register, address, below_stack, above_stack, with_bounds}
+use Rattle.x86_forms.specs.Processor.{Processor, rax, rdx, rsp, part_written, base_value, index_register, address, below_stack, above_stack}
 use Rattle.x86_forms.specs.Requests.{Program, Ends, Fails, Reads, Writes, Loads, Keeps}
-use Rattle.x86_forms.specs.Table.{row, value_then, written_to, operated, one_operand, quotient_kept, checked, bounds_then, alu_operation, shift_operation, reg_value, with_result, with_stack, with_bnd, with_flags_after, init_bounds, branched, pushed, from_stored, at_next}
+use Rattle.x86_forms.specs.Table.{row, value_then, written_to, operated, one_operand, quotient_kept, checked, bounds_then, reg_value, with_result, with_stack, with_bnd, with_flags_after, init_bounds, branched, from_stored, at_next}
 use Rattle.x86_forms.specs.Validity.{valid_of, width_ok, word_ok}
-use Rattle.obj_file.specs.StoreLaw.{AreWords, AreWordFiles, HoldsWords}
+use Rattle.obj_file.specs.StoreLaw.{AreWords, HoldsWords}
 
 -- wherever a program ends, and whatever it keeps, these are words
 abbrev pub KeepWords : Program → Type 0
@@ -37,7 +35,7 @@ either_width w k rest {P} h first last = elim (or_cases rest (nat_eq w k) h) [ i
 pub each_width : (P : ℕ → Type 0) (w : ℕ) → width_ok w ≡ true → P 8 → P 16 → P 32 → P 64 → P w
 each_width P w h a b c d =
     either_width w 64 (nat_eq w 8 || nat_eq w 16 || nat_eq w 32) h (λ h. either_width w 32 (nat_eq w 8 || nat_eq w 16) h (λ h. either_width w 16 (nat_eq w 8) h
-      (λ h. let e : w ≡ 8 = grind (arith, nat_tests) in subst P (sym e) a) (λ e. subst P (sym e) b)) (λ e. subst P (sym e) c)) (λ e. subst P (sym e) d)
+    (λ h. let e : w ≡ 8 = grind (arith, nat_tests) in subst P (sym e) a) (λ e. subst P (sym e) b)) (λ e. subst P (sym e) c)) (λ e. subst P (sym e) d)
 
 pub wide_width : (w : ℕ) → word_ok w ≡ true → width_ok w ≡ true
 wide_width w h = grind (arith, nat_tests)
@@ -92,8 +90,8 @@ keep_one c next op w rm a ok h =
     cond_both (op == 0) _ _ KeepWords (λ e. keep_operated c next Not w rm a 0 ok h)
     (λ e. cond_both (op == 1) _ _ KeepWords (λ f. keep_operated c next Neg w rm a 0 ok h)
     (λ f. cond_both (op == 2) _ _ KeepWords
-      (λ g. keep_quotient c next w (divided w (reg_value c w rdx) (reg_value c w rax) a) ok h)
-      (λ g. keep_quotient c next w (divided_signed w (reg_value c w rdx) (reg_value c w rax) a) ok h)))
+    (λ g. keep_quotient c next w (divided w (reg_value c w rdx) (reg_value c w rax) a) ok h)
+    (λ g. keep_quotient c next w (divided_signed w (reg_value c w rdx) (reg_value c w rax) a) ok h)))
 
 keep_checked : (c : Processor) (next : ℕ) (d : Bool) (v : ℕ) (b : Bounds) → HoldsWords c → KeepWords (checked c next d v b)
 keep_checked c next true v b h = h

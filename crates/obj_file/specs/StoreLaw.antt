@@ -1,8 +1,7 @@
 -- When the directory and the tables hold what the store of bounds keeps, and which runs leave them to walks and servings.
-use Rattle.std.specs.Prelude.{◌≡◌, ℕ, zero, suc, ◌+◌, ◌*◌, ◌/◌, ◌^◌, ◌<◌, ◌≤◌, ⊤, ◌⊎◌, Bool, true, false, IsTrue, not, ◌&&◌, ◌||◌, if◌then◌else◌, Option, None, Some, List, [], ◌∷◌, ◌++◌, length, slice_index}
+use Rattle.std.specs.Prelude.{◌≡◌, ℕ, zero, suc, ◌+◌, ◌*◌, ◌/◌, ◌^◌, ◌<◌, ◌≤◌, ⊤, Bool, true, false, IsTrue, not, ◌&&◌, ◌||◌, if◌then◌else◌, Option, None, Some, List, [], ◌∷◌, ◌++◌, length, slice_index}
 use Rattle.std.specs.List.{All, AllByRecursion}
 use Rattle.mx_base.specs.declared.limits.Bounds.{Bounds}
-use Rattle.mx_base.specs.declared.stops.Stop.{Stop}
 use Rattle.mx_base.specs.Bounds.{moved}
 use Rattle.mx_base.specs.BoundsStore.{BoundsStore, Kept, most_tables}
 use Rattle.mx_base.specs.Memory.{AreBytes, number_at}

@@ -23,10 +23,10 @@ ghost use Rattle.obj_file.specs.StoreLaw.{StandsIn, StatesAlike, EventsAlike, En
 pub fn loads_and_keeps_are_the_store()
     ensures loads { (preserve : Bool) (y : Stored) (la value : ℕ) → la < walk_end
         → with_serving (λ z. stored_load (configuration preserve) z la value) y (stored_load (configuration preserve) y la value)
-            ≡ option_map (λ p. (p.0, with_store y p.1)) (load_bounds y.bounds la value) }
+        ≡ option_map (λ p. (p.0, with_store y p.1)) (load_bounds y.bounds la value) }
     ensures keeps { (preserve : Bool) (y : Stored) (la value : ℕ) (b : BoundsPair) → la < walk_end
         → with_serving (λ z. stored_keep (configuration preserve) z la value b) y (stored_keep (configuration preserve) y la value b)
-            ≡ option_map (with_store y) (keep_bounds y.bounds la value b) }
+        ≡ option_map (with_store y) (keep_bounds y.bounds la value b) }
     ensures no_loads { (cfg : ℕ) (y : Stored) (la value : ℕ) → walk_end ≤ la → stored_load cfg y la value ≡ Err (Misses la) }
     ensures no_keeps { (cfg : ℕ) (y : Stored) (la value : ℕ) (b : BoundsPair) → walk_end ≤ la → stored_keep cfg y la value b ≡ Err (Misses la) }
 {}
