@@ -1,10 +1,10 @@
 -- The example of the store of bounds, computed.
-use Rattle.std.proofs.Common.{◌≡◌, ℕ, ◌<◌, Bool, true, false, cond, nat_eq, nat_lt, subst, List, [], ◌∷◌, length, refl, arith}
+use Rattle.std.proofs.Common.{◌≡◌, ℕ, ◌<◌, Bool, true, false, cond, nat_eq, nat_lt, subst, List, [], ◌∷◌, length, refl, arith, Some}
 use Rattle.std.specs.List.{All, AllByRecursion, list_all, starts_with}
 use Rattle.std.proofs.lemmas.Bool.Decides.{nat_tests}
 use Rattle.std.proofs.lemmas.Bool.{and_parts}
 use Rattle.std.proofs.lemmas.List.Elements.{All-cons}
-use Rattle.mx_base.specs.Bounds.{moved}
+use Rattle.mx_base.specs.Bounds.{full_bounds, moved}
 use Rattle.mx_base.specs.BoundsStore.{bounds_for, touched_with}
 use Rattle.mx_base.specs.Memory.{number_at, with_number, list_at, with_list, first_refused, first_refused_around}
 use Rattle.mx_base.specs.Regions.{is_readable, is_writable, is_executable, is_sealed}
@@ -22,7 +22,7 @@ use Rattle.obj_file.specs.Runs.{run_within, room, run_of}
 use Rattle.obj_file.specs.Loaded.{tabled_read, tabled_write, tabled_load, tabled_keep, table_made, ground_of, state_at_start, image_run}
 use Rattle.obj_file.specs.Stored.{stored_read, stored_write, is_touched, stored_load, stored_keep, megabyte_touched, stored_at_start, stored_run}
 use Rattle.obj_file.specs.StoreLaw.{HaveBytes, is_of_bounds, ReadsValid, EventStaysOut, StaysOutWithin, RunStaysOut}
-use Rattle.obj_file.specs.ExamplesOfStore.{example_code, example_bytes, example_image, example_mode, reader_of, walk_seen, store_seen, seen_over_walk, seen_over_store}
+use Rattle.obj_file.specs.ExamplesOfStore.{rewriting_code, rewriting_bytes, image_with, loaded_at_stop, example_code, example_bytes, example_image, example_mode, reader_of, walk_seen, store_seen, seen_over_walk, seen_over_store}
 
 pub walk_computes : (bare : Bool) → walk_seen (image_run (reader_of example_code) example_image (example_mode bare) 0 []) ≡ seen_over_walk
 unfolding image_run run_of room run_within state_at_start event reading_at reader_of deed_of executed reach_strays asked run row part_written address pointer_address tabled_read tabled_write tabled_load tabled_keep table_made with_next_table next_entry walk directory_entry_at table_entry_at entry_in with_entry bounds_in number_at with_number list_at with_list first_refused first_refused_around is_readable is_writable is_executable is_sealed is_watched is_c_access first_sealed access_strays control_strays is_in_outer begins_outer may_enter is_legacy_control low_bytes mod_of disp_bytes scale_code modrm sib over_base mem_bytes rm_bytes index_high base_high rm_high high_bits is_low rm_is_low forces_rex rex_bits rex_bytes prefix_bytes escape_bytes operand_bytes
@@ -77,3 +77,13 @@ pub example_stays : (bare : Bool) → RunStaysOut (ground_of (reader_of example_
 unfolding RunStaysOut StaysOutWithin EventStaysOut room state_at_start event reading_at reader_of deed_of executed reach_strays asked run row part_written address pointer_address tabled_read tabled_write tabled_load tabled_keep table_made with_next_table next_entry walk directory_entry_at table_entry_at entry_in with_entry bounds_in number_at with_number list_at with_list first_refused first_refused_around is_readable is_writable is_executable is_sealed is_watched is_c_access first_sealed access_strays control_strays is_in_outer begins_outer may_enter is_legacy_control low_bytes mod_of disp_bytes scale_code modrm sib over_base mem_bytes rm_bytes index_high base_high rm_high high_bits is_low rm_is_low forces_rex rex_bits rex_bytes prefix_bytes escape_bytes operand_bytes
 example_stays true = ((λ code. tt), ((λ code. ((λ judged. stack_stays), tt)), ((λ code. tt), ((λ code. tt), ((λ code. tt), ((λ code. tt), tt))))))
 example_stays false = ((λ code. tt), ((λ code. ((λ judged. stack_stays), tt)), ((λ code. tt), ((λ code. tt), ((λ code. tt), ((λ code. tt), tt))))))
+
+-- ---- code that writes the directory
+
+pub walk_rewritten : loaded_at_stop (image_run (reader_of rewriting_code) (image_with rewriting_bytes) (example_mode true) 0 []) ≡ Some full_bounds
+unfolding image_run run_of room run_within state_at_start event reading_at reader_of deed_of executed reach_strays asked run row part_written address pointer_address tabled_read tabled_write tabled_load tabled_keep table_made with_next_table next_entry walk directory_entry_at table_entry_at entry_in with_entry bounds_in number_at with_number list_at with_list first_refused first_refused_around is_readable is_writable is_executable is_sealed is_watched is_c_access first_sealed access_strays control_strays is_in_outer begins_outer may_enter is_legacy_control low_bytes mod_of disp_bytes scale_code modrm sib over_base mem_bytes rm_bytes index_high base_high rm_high high_bits is_low rm_is_low forces_rex rex_bits rex_bytes prefix_bytes escape_bytes operand_bytes
+walk_rewritten = refl
+
+pub store_kept : loaded_at_stop (stored_run (reader_of rewriting_code) (image_with rewriting_bytes) (example_mode true) 0 []) ≡ Some record { lb = 0; ub = 7 }
+unfolding stored_run run_of room run_within stored_at_start event reading_at reader_of deed_of executed reach_strays asked run row part_written address pointer_address stored_read stored_write is_touched stored_load stored_keep megabyte_touched touched_with directory_entry_at bounds_for number_at with_number list_at with_list first_refused first_refused_around is_readable is_writable is_executable is_sealed is_watched is_c_access first_sealed access_strays control_strays is_in_outer begins_outer may_enter is_legacy_control low_bytes mod_of disp_bytes scale_code modrm sib over_base mem_bytes rm_bytes index_high base_high rm_high high_bits is_low rm_is_low forces_rex rex_bits rex_bytes prefix_bytes escape_bytes operand_bytes
+store_kept = refl

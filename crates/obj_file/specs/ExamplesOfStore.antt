@@ -1,4 +1,4 @@
--- A small image of MPX code, run over the walk and over the store of bounds.
+-- Small images of MPX code, run over the walk and over the store of bounds.
 use Rattle.std.specs.Prelude.{ℕ, nat_eq, Bool, false, if◌then◌else◌, Option, None, Some, List, [], ◌∷◌, length, pos}
 use Rattle.std.specs.List.{starts_with}
 use Rattle.mx_base.specs.declared.limits.Bounds.{Bounds}
@@ -8,7 +8,7 @@ use Rattle.mx_base.specs.BoundsStore.{Kept, granule}
 use Rattle.mx_base.specs.Memory.{number_at}
 use Rattle.mx_base.specs.Walk.{TableEntry, entry_in}
 use Rattle.x86_forms.specs.declared.instr.Instr.{Instr}
-use Rattle.x86_forms.specs.declared.instr.Instr.TheVariants.{MovImm, Push, Bndmk, Bndldx, Bndstx}
+use Rattle.x86_forms.specs.declared.instr.Instr.TheVariants.{MovImm, MovMemImm, Push, Bndmk, Bndldx, Bndstx}
 use Rattle.x86_forms.specs.Examples.{reg, based, indexed}
 use Rattle.x86_forms.specs.Spelling.{spelling}
 use Rattle.obj_file.specs.declared.image.Image.{Image}
@@ -31,8 +31,11 @@ example_bytes =
     ∷ 0x0F ∷ 0x1A ∷ 0x0C ∷ 0x0C
     ∷ []
 
+abbrev pub image_with : List ℕ → Image
+image_with bytes = record { outers = 0; segments = record { at = 0x0100_0000; bytes = bytes } ∷ []; files = []; places = [] }
+
 abbrev pub example_image : Image
-example_image = record { outers = 0; segments = record { at = 0x0100_0000; bytes = example_bytes } ∷ []; files = []; places = [] }
+example_image = image_with example_bytes
 
 -- with the watch on, or off
 abbrev pub example_mode : Bool → Mode
@@ -108,3 +111,23 @@ seen_over_store = Some (record {
   touched = 0x71f ∷ [];
   kept = Some (record { value = 0x3000_0010; bounds = example_bounds });
 })
+
+-- ---- code that writes the directory
+
+-- mov rdi, 0x400000003900; bndmk bnd0, [rcx+7]; bndstx [rsp+rcx], bnd0; mov dword [rdi], 0; bndldx bnd1, [rsp+rcx]
+abbrev pub rewriting_code : List Instr
+rewriting_code = MovImm 64 (reg 7) (pos 0x4000_0000_3900) ∷ Bndmk 0 (based 1 (pos 7)) ∷ Bndstx 0 (indexed 4 1 1 (pos 0)) ∷ MovMemImm 32 (based 7 (pos 0)) (pos 0) ∷ Bndldx 1 (indexed 4 1 1 (pos 0)) ∷ []
+
+abbrev pub rewriting_bytes : List ℕ
+rewriting_bytes =
+    0x48 ∷ 0xBF ∷ 0x00 ∷ 0x39 ∷ 0x00 ∷ 0x00 ∷ 0x00 ∷ 0x40 ∷ 0x00 ∷ 0x00
+    ∷ 0xF3 ∷ 0x0F ∷ 0x1B ∷ 0x41 ∷ 0x07
+    ∷ 0x0F ∷ 0x1B ∷ 0x04 ∷ 0x0C
+    ∷ 0xC7 ∷ 0x07 ∷ 0x00 ∷ 0x00 ∷ 0x00 ∷ 0x00
+    ∷ 0x0F ∷ 0x1A ∷ 0x0C ∷ 0x0C
+    ∷ []
+
+-- the bounds that the last instruction loads
+abbrev pub loaded_at_stop : {X : Type 0} → End X → Option Bounds
+loaded_at_stop (Out last) = None
+loaded_at_stop (Stopped why last) = Some (last.processor.bounds 1)

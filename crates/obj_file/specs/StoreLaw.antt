@@ -77,7 +77,8 @@ kept_entry (Some k) = entry_for k.value k.bounds
 
 -- a memory with the directory and the tables stands for one with a store of bounds. There is a table for each megabyte that was touched, in
 -- this order; its directory entry names it, and every other directory entry is 0. Each entry of a table is that of what is kept for its
--- granule, and nothing is kept for other granules. The rest of the tables is 0, and all other bytes are the same
+-- granule, and nothing is kept for other granules. The bytes behind these tables are 0 up to the end of their region, and all bytes that
+-- are neither in the directory nor in the tables are the same
 pub record StandsIn (x : Tabled) (y : Stored) : Type 0 where
   pub made : x.made ≡ length y.bounds.touched
   pub few : x.made ≤ most_tables

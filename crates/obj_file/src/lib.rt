@@ -39,6 +39,7 @@ pub use run_laws::{
 pub use store_laws::{
     a_small_image_runs_alike, either_run_stays_out, events_go_alike,
     exact_readers_read_valid_instructions, images_begin_alike, images_run_alike,
-    kept_bounds_stand_in_their_entries, loads_and_keeps_are_the_store, runs_end_alike,
-    runs_make_the_same_accesses, watched_accesses_stay_out,
+    kept_bounds_stand_in_their_entries, loads_and_keeps_are_the_store,
+    runs_differ_where_code_writes_the_directory, runs_end_alike, runs_make_the_same_accesses,
+    watched_accesses_stay_out,
 };

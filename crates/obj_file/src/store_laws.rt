@@ -3,6 +3,7 @@
 ghost use Rattle.std.specs.Prelude.{◌≡◌, ◌↔◌, ℕ, ◌<◌, ◌≤◌, Bool, false, true, Some, List, [], Err};
 ghost use Rattle.std.specs.Option.{option_map};
 ghost use Rattle.mx_base.specs.declared.limits.Bounds.{Bounds as BoundsPair};
+ghost use Rattle.mx_base.specs.Bounds.{full_bounds};
 ghost use Rattle.mx_base.specs.BoundsStore.{Kept, granule, load_bounds, keep_bounds};
 ghost use Rattle.mx_base.specs.Walk.{Stands, walk, walk_end, entry_in, entry_for};
 ghost use Rattle.x86_forms.specs.declared.instr.Instr.{Instr};
@@ -14,7 +15,7 @@ ghost use Rattle.obj_file.specs.Machine.{Reading, IsReader, Misses, Ground, Stat
 ghost use Rattle.obj_file.specs.Runs.{run_within, run_of, accesses_of};
 ghost use Rattle.obj_file.specs.Loaded.{Tabled, Mode, configuration, ground_of, state_at_start, image_run, image_accesses};
 ghost use Rattle.obj_file.specs.Stored.{Stored, with_store, stored_load, stored_keep, with_serving, stored_ground, stored_at_start, stored_run, stored_accesses};
-ghost use Rattle.obj_file.specs.ExamplesOfStore.{example_code, example_image, example_mode, reader_of, walk_seen, store_seen, seen_over_walk, seen_over_store};
+ghost use Rattle.obj_file.specs.ExamplesOfStore.{example_code, example_image, example_mode, reader_of, rewriting_code, rewriting_bytes, image_with, loaded_at_stop, walk_seen, store_seen, seen_over_walk, seen_over_store};
 ghost use Rattle.obj_file.specs.StoreLaw.{StandsIn, StatesAlike, EventsAlike, EndsAlike, ReadsValid, HaveBytes, StaysOut, EventStaysOut, StaysOutWithin, RunStaysOut};
 
 /// The law that the machine over the store of bounds has this store for its bounds. An address below 2^47 is served where
@@ -110,4 +111,11 @@ pub fn a_small_image_runs_alike()
     ensures stays_out { (bare : Bool) → RunStaysOut (ground_of (reader_of example_code) 0 (example_mode bare)) 0 (state_at_start example_image.segments false []) }
     ensures walk { (bare : Bool) → walk_seen (image_run (reader_of example_code) example_image (example_mode bare) 0 []) ≡ seen_over_walk }
     ensures store { (bare : Bool) → store_seen (stored_run (reader_of example_code) example_image (example_mode bare) 0 []) ≡ seen_over_store }
+{}
+
+/// An example of code that does not leave the directory to walks: with the watch off it writes 0 over half of the directory
+/// entry that names its table, and what it stored is found no more. So the law cannot do without its premise.
+pub fn runs_differ_where_code_writes_the_directory()
+    ensures walk { loaded_at_stop (image_run (reader_of rewriting_code) (image_with rewriting_bytes) (example_mode true) 0 []) ≡ Some full_bounds }
+    ensures store { loaded_at_stop (stored_run (reader_of rewriting_code) (image_with rewriting_bytes) (example_mode true) 0 []) ≡ Some record { lb = 0; ub = 7 } }
 {}
