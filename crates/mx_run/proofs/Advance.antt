@@ -1,26 +1,25 @@
 -- The event of an instruction, and events one after another.
-use Rattle.std.proofs.Common.{◌≡◌, ◌∙◌, ℕ, zero, suc, ◌+◌, ◌%◌, ◌^◌, ◌<◌, ◌≤◌, Bool, true, false, List, [], ◌∷◌, ◌++◌, refl, sym, ap, subst, arith, append_assoc, ◌||◌}
-use Rattle.std.specs.Prelude.{Option, Some, None, Result, Ok, Err, not, nat_le, if◌then◌else◌}
+use Rattle.std.proofs.Common.{◌≡◌, ◌∙◌, ℕ, zero, suc, ◌+◌, ◌%◌, ◌^◌, ◌<◌, ◌≤◌, Bool, true, false, List, [], ◌++◌, refl, sym, ap, subst, arith, append_assoc, ◌||◌}
+use Rattle.std.specs.Prelude.{Option, Some, None, Result, Ok, Err, nat_le, if◌then◌else◌}
 use Rattle.std.proofs.lemmas.Bool.Decides.{nat_tests}
-use Rattle.std.proofs.lemmas.Bool.{cond_both}
 use Rattle.mx_base.specs.declared.stops.Stop.{Stop}
 use Rattle.mx_base.specs.declared.stops.Stop.TheVariants as stop
-use Rattle.mx_base.specs.Outside.{Adds, HasRisen, one_more}
+use Rattle.mx_base.specs.Outside.{Adds, one_more}
 use Rattle.mx_base.specs.Regions.{is_executable}
-use Rattle.guest_services.proofs.Sinks.{Adds-none, Adds-then}
+use Rattle.guest_services.proofs.Sinks.{Adds-then}
 use Rattle.x86_forms.specs.declared.instr.Instr.{Instr}
 use Rattle.x86_forms.specs.Watch.{is_legacy}
 use Rattle.x86_core.specs.declared.cpu.Cpu.{Cpu}
 use Rattle.mpx_core.specs.declared.registers.BndRegs.{BndRegs}
-use Rattle.obj_file.specs.Machine.{Reading, Is, Part, Neither, Ground, State, Deed, Does, Halts, Event, Goes, Stops, is_call, is_return, deed_of, deed_by, event, event_of, event_by, reading_at, counted, owes, next_address, fetched_size}
+use Rattle.obj_file.specs.Machine.{Reading, Is, Part, Neither, Ground, State, Deed, Does, Halts, Goes, Stops, is_call, is_return, deed_of, deed_by, event, event_of, event_by, reading_at, counted, owes, next_address, fetched_size}
 use Rattle.obj_file.specs.Runs.{End, Out, Stopped, after, run_of}
 use Rattle.obj_file.specs.Loaded.{Tabled}
 use Rattle.obj_file.proofs.RunLaws.{forward_of, run_step}
 use Rattle.mx_run.specs.declared.parts.Parts.{Parts}
 use Rattle.mx_run.specs.Reads.{found_at, found_by}
 use Rattle.mx_run.specs.Parts.{ground, state_of, processor_of}
-use Rattle.mx_run.specs.Events.{Around, IsNow, IsCut, Acts, Ends, Moves, TakesTurn, IsLeft, IsLost, out_of, left_of, CountsReads, CountsWrites, FindsFew}
-use Rattle.mx_run.proofs.Growth.{Grows, no_more, grows_then, deed_grows, after_grows, event_of_grows, run_grows}
+use Rattle.mx_run.specs.Events.{Around, IsNow, IsCut, Acts, Ends, Moves, TakesTurn, IsLost, out_of, left_of, CountsReads, CountsWrites, FindsFew}
+use Rattle.mx_run.proofs.Growth.{Grows, no_more, deed_grows, after_grows, event_of_grows, run_grows}
 use Rattle.mx_run.proofs.Back.{leads_back}
 use Rattle.mx_run.proofs.Doing.{now_same}
 

@@ -1,21 +1,20 @@
 -- An instruction that leads back is a jump, which changes no memory.
-use Rattle.std.proofs.Common.{◌≡◌, ◌∙◌, ◌⊎◌, inl, inr, ℕ, ◌+◌, ◌<◌, ◌≤◌, Bool, true, false, List, refl, sym, ap, subst, arith, ◌||◌}
+use Rattle.std.proofs.Common.{◌≡◌, ◌∙◌, ◌⊎◌, inl, inr, ℕ, ◌<◌, ◌≤◌, Bool, true, false, refl, sym, ap, subst, arith}
 use Rattle.std.specs.Prelude.{Option, Some, None, Result, Ok, Err, if◌then◌else◌}
 use Rattle.mx_base.specs.declared.limits.Bounds.{Bounds}
 use Rattle.mx_base.specs.declared.stops.Stop.{Stop}
-use Rattle.mx_base.specs.Services.{Guest, Served, Answers, Exits, Overflows, Refused as Denied}
+use Rattle.mx_base.specs.Services.{Served, Answers, Exits, Overflows, Refused as Denied}
 use Rattle.x86_forms.specs.declared.instr.Instr.{Instr}
-use Rattle.x86_forms.specs.declared.instr.Rm.{Rm}
 use Rattle.x86_forms.specs.declared.instr.Rm.TheVariants.{Reg as InReg, Mem as InMem}
-use Rattle.x86_forms.specs.declared.instr.Instr.TheVariants.{CallRel, JmpRel, CallRm, JmpRm, Jcc, Ret, Syscall, Bndmk, Bndcl, Bndcu, Bndcn, BndmovTo, BndmovFrom, Bndldx, Bndstx}
+use Rattle.x86_forms.specs.declared.instr.Instr.TheVariants.{CallRel, JmpRel, CallRm, JmpRm, Jcc, Ret, Bndmk, Bndcl, Bndcu, Bndcn, BndmovTo, BndmovFrom, Bndldx, Bndstx}
 use Rattle.x86_forms.specs.Processor.{Processor}
 use Rattle.x86_forms.specs.Requests.{Program, Ends, Fails, Reads, Writes, Loads, Keeps, Store, Outcome, Done, Failed, Refused, run, refused_with, either_way}
-use Rattle.x86_forms.specs.Table.{row, checked, at_next}
+use Rattle.x86_forms.specs.Table.{row, checked}
 use Rattle.x86_core.specs.Steps.{is_plain}
-use Rattle.obj_file.specs.Machine.{Refusal, Misses, Invalid, Ground, State, Deed, Does, Halts, executed, ended, restarted, served_or_ended, asked, answered, with_service, with_service_of, is_service, is_call, is_return, unless_strayed, control_judged, deed_of, left_by}
+use Rattle.obj_file.specs.Machine.{Refusal, Misses, Invalid, Ground, State, Deed, Does, Halts, executed, ended, restarted, served_or_ended, asked, answered, with_service, is_service, is_call, is_return, unless_strayed, control_judged, deed_of}
 use Rattle.obj_file.specs.Loaded.{Tabled, unless_missing, tabled_read, tabled_write, tabled_store}
 use Rattle.mx_run.specs.Parts.{ground}
-use Rattle.mx_run.proofs.PlainRows.{IsPlain, branches, jumps, plain_row, LeadsTo, LeadsWhereDone, LeavesMemory, plain_leads, jump_leaves}
+use Rattle.mx_run.proofs.PlainRows.{IsPlain, branches, jumps, plain_row, LeadsWhereDone, LeavesMemory, plain_leads, jump_leaves}
 use Rattle.mx_run.proofs.Doing.{syscall_is, syscall_does, entered}
 
 -- ---- MPX instructions lead to the next one

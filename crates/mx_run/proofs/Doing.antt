@@ -1,16 +1,16 @@
 -- What an instruction does, from its parts.
-use Rattle.std.proofs.Common.{◌≡◌, ◌∙◌, ℕ, ◌+◌, ◌==◌, Bool, true, false, List, [], ◌∷◌, ◌++◌, refl, sym, ap, subst, slice_index}
+use Rattle.std.proofs.Common.{◌≡◌, ◌∙◌, ℕ, Bool, true, false, List, [], ◌++◌, refl, sym, ap, subst}
 use Rattle.std.specs.Prelude.{Option, Some, None, if◌then◌else◌}
 use Rattle.std.proofs.lemmas.List.{append-nil}
 use Rattle.mx_base.specs.declared.stops.Stop.{Stop}
 use Rattle.mx_base.specs.declared.stops.Stop.TheVariants as stop
-use Rattle.mx_base.specs.Services.{Guest, Served, Answers, Exits, Overflows, Refused as Denied, service_of, served}
+use Rattle.mx_base.specs.Services.{Guest, Served, Answers, service_of, served}
 use Rattle.mx_base.specs.Outside.{Adds}
 use Rattle.guest_services.proofs.Sinks.{Adds-none}
 use Rattle.x86_forms.specs.declared.instr.Instr.{Instr}
 use Rattle.x86_forms.specs.declared.instr.Instr.TheVariants.{Syscall}
-use Rattle.x86_forms.specs.Processor.{Processor, rax, rcx, r11}
-use Rattle.x86_forms.specs.Requests.{Done, run}
+use Rattle.x86_forms.specs.Processor.{rcx, r11}
+use Rattle.x86_forms.specs.Requests.{run}
 use Rattle.x86_forms.specs.Table.{row, with_result, at_next}
 use Rattle.x86_forms.specs.Watch.{control_strays}
 use Rattle.x86_forms.specs.Accesses.{accesses, reach_of}
@@ -18,8 +18,8 @@ use Rattle.x86_core.specs.declared.cpu.Cpu.{Cpu}
 use Rattle.obj_file.specs.Machine.{Ground, State, Deed, Does, Halts, executed, bytes_judged, asked, answered, with_service, with_service_of, is_service, is_call, is_return, unless_bare, unless_strayed, control_judged, reach_strays, deed_of}
 use Rattle.obj_file.specs.Loaded.{Tabled}
 use Rattle.mx_run.specs.declared.parts.Parts.{Parts}
-use Rattle.mx_run.specs.Parts.{ground, state_of, processor_of, HaltsIn}
-use Rattle.mx_run.specs.Events.{Around, IsNow, IsCut, Acts, Serves, IsUntouched, CountsReads, CountsWrites, FindsFew, left_of}
+use Rattle.mx_run.specs.Parts.{ground, state_of, HaltsIn}
+use Rattle.mx_run.specs.Events.{Around, IsNow, IsCut, Acts, Serves, CountsReads, CountsWrites, FindsFew, left_of}
 
 -- ---- nothing taken and nothing put
 

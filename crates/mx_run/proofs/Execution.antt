@@ -1,9 +1,8 @@
 -- What a step of the processor makes of a state, from what its row does over frames.
-use Rattle.std.proofs.Common.{◌≡◌, ◌∙◌, ℕ, ◌<◌, ◌+◌, arith, Bool, true, false, List, refl, sym, ap, subst, slice_index, ◌||◌, IsTrue}
+use Rattle.std.proofs.Common.{◌≡◌, ◌∙◌, ℕ, ◌+◌, arith, Bool, true, List, refl, sym, ap, subst, slice_index, ◌||◌, IsTrue}
 use Rattle.std.specs.Prelude.{Option, Some, None, Result, Ok, Err, if◌then◌else◌}
 use Rattle.std.specs.Option.{option_map}
 use Rattle.std.proofs.lemmas.Bool.Decides.{nat_tests}
-use Rattle.mx_base.specs.declared.limits.Bounds.{Bounds}
 use Rattle.mx_base.specs.Memory.{Bytes}
 use Rattle.mx_base.specs.Walk.{directory_base, directory_entry_at, with_next_table}
 use Rattle.mx_base.specs.declared.stops.Stop.{Stop}
@@ -11,15 +10,14 @@ use Rattle.mx_base.specs.declared.stops.Stop.TheVariants as stop
 use Rattle.mx_base.specs.Services.{Guest}
 use Rattle.paged_memory.specs.declared.stops.MemStop.{MemStop}
 use Rattle.paged_memory.specs.declared.stops.MemStop.TheVariants as mem
-use Rattle.paged_memory.specs.Paged.{Paged, bytes_of, touched_of}
+use Rattle.paged_memory.specs.Paged.{Paged, bytes_of}
 use Rattle.paged_memory.specs.Answers.{IsShort}
 use Rattle.bound_tables.specs.declared.walks.Walk.{Walk}
 use Rattle.bound_tables.specs.Walks.{is_configuration}
 use Rattle.br_runtime.specs.Serving.{is_directory_entry, named_entry}
-use Rattle.bound_tables.specs.declared.walks.Walk.TheVariants as walks
 use Rattle.x86_forms.specs.declared.instr.Instr.{Instr}
 use Rattle.x86_forms.specs.Processor.{Processor}
-use Rattle.x86_forms.specs.Requests.{Fault, Divides, Undefines, Violates, Outcome, Done, Failed, Refused, run}
+use Rattle.x86_forms.specs.Requests.{Divides, Undefines, Violates, Outcome, Done, Failed, Refused, run}
 use Rattle.x86_forms.specs.Table.{row, init_bounds, at_next}
 use Rattle.x86_forms.specs.TableLaws.{BoundsAfter}
 use Rattle.x86_forms.proofs.TableKeeps.{tidy_row}
@@ -39,7 +37,7 @@ use Rattle.obj_file.specs.Loaded.{Tabled, tabled_store, table_made}
 use Rattle.mx_run.specs.Parts.{ground, state_of, processor_of, tabled_of, core_stop, memory_stop, bounds_stop, once, PlainLacks, WalkLacks, HaltsIn, Executes, MakesTable}
 use Rattle.mx_run.specs.declared.parts.Parts.{Parts}
 use Rattle.mx_run.proofs.PlainRows.{branches, jumps, plain_row}
-use Rattle.mx_run.proofs.Frames.{tabled, SameTabled, plain_tabled, walk_tabled, SameWalked, walked_tabled, IsOfDirectory, NamesEntry, names_entry}
+use Rattle.mx_run.proofs.Frames.{SameTabled, plain_tabled, SameWalked, walked_tabled, IsOfDirectory, NamesEntry, names_entry}
 
 abbrev pub state_with : Processor → Tabled → Guest → ℕ → State Tabled
 state_with c x guest steps = record { processor = c; memory = x; guest = guest; steps = steps }

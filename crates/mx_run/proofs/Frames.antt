@@ -1,9 +1,7 @@
 -- Programs of requests over the frames of a memory, and over what the meaning of an image has: its bytes and tables.
-use Rattle.std.proofs.Common.{◌≡◌, ℕ, ◌<◌, Bool, true, false, nat_lt, List, refl, sym, ◌∙◌, arith, ap, subst}
+use Rattle.std.proofs.Common.{◌≡◌, ℕ, Bool, true, false, nat_lt, List, refl}
 use Rattle.std.specs.Prelude.{Option, Some, None, Result, Ok, Err, if◌then◌else◌}
-use Rattle.std.proofs.lemmas.Bool.{ltb-true}
 use Rattle.mx_base.specs.declared.limits.Bounds.{Bounds}
-use Rattle.mx_base.specs.Bounds.{full_bounds}
 use Rattle.mx_base.specs.Regions.{is_readable, is_writable}
 use Rattle.mx_base.specs.Memory.{Bytes, number_at, with_number, first_refused}
 use Rattle.mx_base.specs.Walk.{Walked, Beyond, Invalid as NoTable, Stands, walk, entry_in, with_entry, entry_size, entry_for, bounds_in, directory_entry_at, table_entry_at, is_valid_entry, walk_end}

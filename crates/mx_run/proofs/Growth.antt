@@ -1,24 +1,24 @@
 -- Output only grows: a run puts what was put before, and then more.
-use Rattle.std.proofs.Common.{◌≡◌, ◌∙◌, ℕ, zero, suc, ◌+◌, ◌-◌, ◌<◌, ◌≤◌, ◌==◌, Bool, true, false, List, [], ◌∷◌, ◌++◌, refl, sym, ap, subst, arith, append_assoc}
+use Rattle.std.proofs.Common.{◌≡◌, ◌∙◌, ℕ, zero, suc, ◌<◌, ◌==◌, Bool, true, false, List, [], ◌∷◌, ◌++◌, refl, sym, ap, subst, arith, append_assoc}
 use Rattle.std.specs.Prelude.{Option, Some, None, not, if◌then◌else◌}
 use Rattle.std.proofs.lemmas.List.{append-nil}
 use Rattle.std.proofs.lemmas.Bool.{cond_both}
 use Rattle.mx_base.specs.declared.stops.Stop.{Stop}
-use Rattle.mx_base.specs.Heap.{Heap, allocated, freed}
-use Rattle.mx_base.specs.Memory.{Bytes, list_at}
+use Rattle.mx_base.specs.Heap.{Heap, freed}
+use Rattle.mx_base.specs.Memory.{Bytes}
 use Rattle.mx_base.specs.Regions.{is_executable}
 use Rattle.mx_base.specs.Services.{Service, Write, Exit, Alloc, Free, Print, Put, Get, StackOver, NoService, Guest, Served, Answers, Exits, Overflows, Refused as Denied, served, written, gotten, free_answer, minus}
 use Rattle.x86_forms.specs.declared.instr.Instr.{Instr}
 use Rattle.x86_forms.specs.Processor.{Processor}
 use Rattle.x86_forms.specs.Requests.{Outcome, Done, Failed, Refused, run}
 use Rattle.x86_forms.specs.Table.{row}
-use Rattle.obj_file.specs.Machine.{Reading, Is, Part, Neither, Refusal, Misses, Invalid, Ground, State, Deed, Does, Halts, Event, Goes, Stops, executed, ended, restarted, served_or_ended, asked, answered, with_service, with_service_of, is_service, unless_strayed, control_judged, deed_of, deed_by, event, event_by, event_of, reading_at, next_address, owes, unless_bare, reach_strays, is_call, is_return}
+use Rattle.obj_file.specs.Machine.{Reading, Is, Part, Neither, Refusal, Misses, Invalid, Ground, State, Deed, Does, Halts, Event, Goes, Stops, executed, ended, restarted, served_or_ended, asked, answered, with_service, with_service_of, is_service, unless_strayed, control_judged, deed_of, deed_by, event, event_of, reading_at, next_address, owes, unless_bare, reach_strays, is_call, is_return}
 use Rattle.x86_forms.specs.Accesses.{accesses, reach_of}
 use Rattle.x86_forms.specs.Watch.{control_strays}
 use Rattle.mx_base.specs.declared.stops.Stop.TheVariants as stop
-use Rattle.obj_file.specs.Runs.{End, Out, Stopped, after, run_of, room}
+use Rattle.obj_file.specs.Runs.{End, after, run_of, room}
 use Rattle.obj_file.specs.Loaded.{Tabled}
-use Rattle.obj_file.proofs.RunLaws.{IsForward, forward_of, event_forward, room_falls, room_falls_turn, run_step}
+use Rattle.obj_file.proofs.RunLaws.{IsForward, event_forward, room_falls, room_falls_turn, run_step}
 use Rattle.mx_run.specs.Events.{out_of, left_of}
 
 abbrev pub Grows : List ℕ → List ℕ → Type 0

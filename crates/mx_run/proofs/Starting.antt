@@ -1,6 +1,6 @@
 -- The state before the first event.
-use Rattle.std.proofs.Common.{◌≡◌, ◌∙◌, ℕ, Bool, true, false, List, [], ◌∷◌, refl, sym, ap, subst, slice_index}
-use Rattle.std.specs.Prelude.{nat_eq, Option, None, Some, Result, Ok, Err, if◌then◌else◌}
+use Rattle.std.proofs.Common.{◌≡◌, ◌∙◌, ℕ, Bool, List, [], refl, sym, subst, slice_index}
+use Rattle.std.specs.Prelude.{nat_eq, None, Result, Ok, Err, if◌then◌else◌}
 use Rattle.mx_base.specs.Memory.{no_bytes}
 use Rattle.mx_base.specs.Heap.{Heap, whole_heap}
 use Rattle.paged_memory.specs.Paged.{Paged, bytes_of, touched_of}

@@ -1,5 +1,5 @@
-use Rattle.std.proofs.Common.{◌≡◌, ◌∙◌, ℕ, ◌+◌, ◌%◌, ◌^◌, ◌<◌, ◌≤◌, Bool, true, false, List, [], ◌∷◌, ◌++◌, refl, sym, ap, subst, slice_index, IsTrue, arith}
-use Rattle.std.specs.Prelude.{Option, Some, None, Result, Ok, Err}
+use Rattle.std.proofs.Common.{◌∙◌, ◌+◌, ◌%◌, ◌^◌, sym, ap, subst, slice_index}
+use Rattle.std.specs.Prelude.{Option}
 use Rattle.mx_base.specs.declared.stops.Stop.{Stop}
 use Rattle.x86_forms.specs.Accesses.{accesses, reach_of}
 use Rattle.obj_file.specs.Machine.{executed, with_service_of, unless_bare, reach_strays}

@@ -1,5 +1,5 @@
-use Rattle.std.proofs.Common.{◌≡◌, ◌∙◌, ℕ, ◌+◌, ◌%◌, ◌^◌, ◌<◌, ◌≤◌, Bool, true, false, List, [], ◌∷◌, ◌++◌, refl, sym, ap, subst, slice_index, IsTrue, arith}
-use Rattle.std.specs.Prelude.{Option, Some, None, Result, Ok, Err}
+use Rattle.std.proofs.Common.{◌∙◌, ◌+◌, ◌%◌, ◌^◌, false, [], refl, sym}
+use Rattle.std.specs.Prelude.{Some}
 use Rattle.obj_file.specs.Machine.{executed}
 use Rattle.mx_run.specs.Parts.{ground, state_of, LacksFrames}
 use Rattle.mx_run.proofs.Advance.{finds_by}

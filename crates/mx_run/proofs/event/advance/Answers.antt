@@ -1,5 +1,5 @@
-use Rattle.std.proofs.Common.{◌≡◌, ◌∙◌, ℕ, ◌+◌, ◌%◌, ◌^◌, ◌<◌, ◌≤◌, Bool, true, false, List, [], ◌∷◌, ◌++◌, length, take, refl, sym, ap, subst, slice_index, IsTrue, arith, ◌||◌}
-use Rattle.std.specs.Prelude.{Option, Some, None, Result, Ok, Err}
+use Rattle.std.proofs.Common.{◌∙◌, ◌+◌, ◌%◌, ◌^◌, Bool, refl, subst}
+use Rattle.std.specs.Prelude.{Option}
 use Rattle.mx_base.specs.declared.stops.Stop.{Stop}
 use Rattle.obj_file.specs.Machine.{deed_of}
 use Rattle.mx_run.specs.Parts.{ground, state_of}

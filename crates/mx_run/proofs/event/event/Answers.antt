@@ -1,5 +1,4 @@
-use Rattle.std.proofs.Common.{◌≡◌, ◌∙◌, ℕ, ◌+◌, ◌%◌, ◌^◌, ◌<◌, ◌≤◌, Bool, true, false, List, [], ◌∷◌, ◌++◌, length, take, refl, sym, ap, subst, slice_index, IsTrue, arith, ◌||◌}
-use Rattle.std.specs.Prelude.{Option, Some, None, Result, Ok, Err}
+use Rattle.std.proofs.Common.{◌∙◌, ◌+◌, ◌%◌, ◌^◌, Bool, false, sym, ap, subst, ◌||◌}
 use Rattle.obj_file.specs.Machine.{is_call, is_return}
 use Rattle.obj_file.specs.Runs.{End}
 use Rattle.obj_file.specs.Loaded.{Tabled}

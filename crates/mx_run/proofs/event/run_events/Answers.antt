@@ -1,5 +1,5 @@
-use Rattle.std.proofs.Common.{◌≡◌, ◌∙◌, ℕ, ◌+◌, ◌%◌, ◌^◌, ◌<◌, ◌≤◌, Bool, true, false, List, [], ◌∷◌, ◌++◌, length, take, refl, sym, ap, subst, slice_index, IsTrue, arith, ◌||◌}
-use Rattle.std.specs.Prelude.{Option, Some, None, Result, Ok, Err}
+use Rattle.std.proofs.Common.{◌∙◌, refl}
+use Rattle.std.specs.Prelude.{Some}
 use Rattle.obj_file.specs.Runs.{run_of}
 use Rattle.mx_run.specs.Parts.{ground, state_of}
 use Rattle.mx_run.proofs.Advance.{moves_start, moves_end, moves_on, counts_then, writes_then, finds_by}

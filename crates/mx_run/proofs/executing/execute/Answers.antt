@@ -1,4 +1,4 @@
-use Rattle.std.proofs.Common.{◌+◌, ◌%◌, ◌^◌, ℕ, subst}
+use Rattle.std.proofs.Common.{◌+◌, ◌%◌, ◌^◌, subst}
 use Rattle.obj_file.specs.Machine.{executed}
 use Rattle.mx_run.specs.Parts.{ground, state_of, LacksFrames, Executes}
 use Rattle.mx_run.proofs.executing.execute.Goals as goal

@@ -1,4 +1,4 @@
-use Rattle.std.proofs.Common.{◌≡◌, ◌∙◌, ℕ, ◌+◌, ◌%◌, ◌^◌, ◌<◌, ◌≤◌, Bool, true, false, List, refl, sym, ap, subst, slice_index, IsTrue, arith}
+use Rattle.std.proofs.Common.{refl, sym, ap, subst, slice_index}
 use Rattle.std.specs.Prelude.{Ok, Err}
 use Rattle.mx_base.specs.declared.stops.Stop.{Stop}
 use Rattle.x86_alu.specs.Alu.{flags_in}

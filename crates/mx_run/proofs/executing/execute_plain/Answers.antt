@@ -1,5 +1,5 @@
-use Rattle.std.proofs.Common.{inl, inr, ◌≡◌, ◌∙◌, ℕ, ◌+◌, ◌%◌, ◌^◌, ◌<◌, ◌≤◌, Bool, true, false, List, refl, sym, ap, subst, slice_index, IsTrue, arith}
-use Rattle.std.specs.Prelude.{Result, Ok, Err}
+use Rattle.std.proofs.Common.{inl, ◌∙◌, ◌+◌, ◌%◌, ◌^◌, sym, ap, subst}
+use Rattle.std.specs.Prelude.{Result, Ok}
 use Rattle.mx_base.specs.declared.stops.Stop.{Stop}
 use Rattle.x86_forms.specs.Processor.{Processor}
 use Rattle.x86_core.specs.declared.cpu.Done.{Done as Kind}

@@ -1,4 +1,4 @@
-use Rattle.std.proofs.Common.{◌≡◌, ◌∙◌, ℕ, ◌+◌, ◌%◌, ◌^◌, ◌<◌, ◌≤◌, Bool, true, false, List, refl, sym, ap, subst, slice_index, IsTrue, arith}
+use Rattle.std.proofs.Common.{◌∙◌, ◌+◌, ap, subst}
 use Rattle.std.specs.Prelude.{Result, Err}
 use Rattle.paged_memory.specs.Answers.{IsShort, Touches}
 use Rattle.br_runtime.specs.declared.refusals.Serve.{Serve}

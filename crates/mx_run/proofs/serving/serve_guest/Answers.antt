@@ -1,5 +1,4 @@
-use Rattle.std.proofs.Common.{◌≡◌, ◌∙◌, ℕ, ◌+◌, ◌%◌, ◌^◌, ◌<◌, ◌≤◌, Bool, true, false, List, [], ◌∷◌, ◌++◌, refl, sym, ap, subst, slice_index, IsTrue, arith}
-use Rattle.std.specs.Prelude.{Option, Some, None, Result, Ok, Err}
+use Rattle.std.proofs.Common.{◌∙◌, ℕ, ◌++◌, sym, ap, subst, slice_index}
 use Rattle.mx_base.specs.Services.{served, service_of}
 use Rattle.paged_memory.specs.Paged.{bytes_of}
 use Rattle.guest_services.specs.declared.services.Served.{Served as Answer}

@@ -1,4 +1,4 @@
-use Rattle.std.proofs.Common.{◌≡◌, ◌∙◌, sym, ap, subst, refl, List}
+use Rattle.std.proofs.Common.{sym, ap, subst, refl}
 use Rattle.x86_alu.specs.Alu.{flags_in}
 use Rattle.mx_run.specs.Placing.{AreSegments}
 use Rattle.mx_run.proofs.PlacingLaws.{are_segments}
