@@ -148,8 +148,8 @@ module _ (cfg outers : ℕ) (bare : Bool) (i : Instr) (len turns : ℕ) (s : Sta
       → due ≡ (owed || nat_le p.cpu.rip s.processor.rip) → TakesTurn due turns left true → n ≡ one_more p.steps → ((bytes out : List ℕ) → record (state_of p bytes out) { steps = n } ≡ state_of q bytes out) → Acts D held so_far record { parts = p; left = left'; held = held' } None
       → Moves E G held so_far left record { parts = q; left = left'; held = held' } None
   advance_goes held so_far p q left' held' owed due left n e d takes steps to h =
-      let same : due ≡ ((is_legacy s.processor.rip || Owed) || nat_le h.0.processor.rip s.processor.rip) = d ∙ due_same owed h.0 (state_of p h.2.rest (so_far ++ h.2.more)) e h.2.is in
-      (counted h.0,
+      let same : due ≡ ((is_legacy s.processor.rip || Owed) || nat_le h.0.processor.rip s.processor.rip) = d ∙ due_same owed h.0 (state_of p h.2.rest (so_far ++ h.2.more)) e h.2.is in (
+        counted h.0,
         ap (λ d. after (run_of G) turns s (event_of s Owed d)) h.1 ∙ goes_after left ((is_legacy s.processor.rip || Owed) || nat_le h.0.processor.rip s.processor.rip) (counted h.0) (subst (λ (b : Bool). TakesTurn b turns left true) same takes),
         record {
           rest = h.2.rest;
@@ -157,7 +157,8 @@ module _ (cfg outers : ℕ) (bare : Bool) (i : Instr) (len turns : ℕ) (s : Sta
           left = h.2.left;
           adds = h.2.adds;
           is = ap counted h.2.is ∙ ap (λ m. record (state_of p h.2.rest (so_far ++ h.2.more)) { steps = m }) (sym steps) ∙ to h.2.rest (so_far ++ h.2.more);
-        })
+        },
+      )
 
   no_turn : (b : Bool) (left : ℕ) → TakesTurn b turns left false → (b ≡ true) × (turns ≡ 0)
   no_turn true left h = (refl, h.0)
@@ -178,8 +179,8 @@ module _ (cfg outers : ℕ) (bare : Bool) (i : Instr) (len turns : ℕ) (s : Sta
       let same : due ≡ ((is_legacy s.processor.rip || Owed) || nat_le h.0.processor.rip s.processor.rip) = d ∙ due_same owed h.0 (state_of p h.2.rest (so_far ++ h.2.more)) e h.2.is in
       let none = no_turn due left takes in
       let b : ((is_legacy s.processor.rip || Owed) || nat_le h.0.processor.rip s.processor.rip) ≡ true = sym same ∙ none.0 in
-      let kept = taken_back h.0 some few paid h.1 b none.1 in
-      (s,
+      let kept = taken_back h.0 some few paid h.1 b none.1 in (
+        s,
         ap (λ d. after (run_of G) turns s (event_of s Owed d)) h.1 ∙ out_after (counted h.0) _ b none.1,
         record {
           rest = h.2.rest;
@@ -189,7 +190,8 @@ module _ (cfg outers : ℕ) (bare : Bool) (i : Instr) (len turns : ℕ) (s : Sta
           is = (λ j. record { processor = proc j; memory = sym kept.0 j; guest = sym kept.1 j; steps = sym kept.2 j })
               ∙ ap (λ (t : State Tabled). record t { processor = processor_of q.cpu q.bnd }) h.2.is
               ∙ back h.2.rest (so_far ++ h.2.more);
-        })
+        },
+      )
 
 -- ---- an event
 

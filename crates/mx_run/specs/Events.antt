@@ -146,7 +146,8 @@ FindsFew few answer = Unit {0}
 abbrev pub LacksAt : Parts → ℕ → ℕ → Type 0
 LacksAt p in_use capacity = (i : Instr) × (size : ℕ) × (found_at (bytes_of p.memory) p.cpu.rip ≡ Ok (i, size)) × LacksFrames p i (next_address p.cpu.rip size) in_use capacity
 
--- a run came to parts of which that is so, where the source tells what is left
+-- a run came to parts of which that is so, where the source tells what is left. These parts are tied to the run by its state, so by the
+-- bytes of their memory; how many frames that memory has, and which of its pages are touched, no clause ties to the machine's own
 pub record GivesUp (g : Ground Tabled) (turns : ℕ) (left held : Option (List ℕ)) (old : Parts) (in_use capacity : ℕ) : Type 0 where
   pub at : Around
   pub turns_left : ℕ

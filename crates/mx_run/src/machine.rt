@@ -118,7 +118,8 @@ impl Machine {
     /// put into the sink and what is left in the source are those of the run from its state. After `OutOfTurns` a further run goes
     /// on with the new turns; after any other stop it answers that stop again and does nothing. `NoFrames`, `ReadFault` and
     /// `WriteFault` give a run up, after a front of its output. Of a source that doesn't tell what is left only the causes of the
-    /// faults are promised.
+    /// faults are promised. `NoFrames` is tied to a write that an instruction of the run asks for, over a memory with the run's bytes;
+    /// that its frames and touched pages are those of this machine isn't promised.
     pub fn run<I: Source, O: Sink>(&mut self, turns: u64, input: &mut I, out: &mut O) -> Stop
         ensures runs { self.old.kept ≡ None → (bytes so_far : List ℕ) → I.left input.old ≡ Some bytes → Ends (run_of (ground_of self.old) turns (machine_state self.old bytes so_far)) (O.held out.old) so_far record { parts = self.new.parts; left = I.left input.new; held = O.held out.new } result }
         ensures reads { self.old.kept ≡ None → CountsReads (Some result) (I.faults input.old) (I.faults input.new) }

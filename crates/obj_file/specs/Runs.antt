@@ -61,6 +61,6 @@ unfoldable pub accesses_within : {X : Type 0} → Ground X → ℕ → ℕ → S
 accesses_within g zero turns s = []
 accesses_within g (suc n) turns s = and_later (accesses_within g n) turns (c_accesses_by s (reading_at g s)) (event g s)
 
--- the accesses that a run makes for C, in order
+-- the accesses that a run makes for C, in order; an instruction that stops counts as making none
 unfoldable pub accesses_of : {X : Type 0} → Ground X → ℕ → State X → List Access
 accesses_of g turns s = accesses_within g (room turns s) turns s

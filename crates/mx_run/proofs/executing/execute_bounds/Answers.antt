@@ -41,10 +41,16 @@ returns-in-None-clause-does c outers bare input out =
     ∙ ap (restarted (ground c.args.p.now.bnd.cfg outers bare) c.args.i.now c.args.next (state_of c.args.p.now input out) (processor_of c.args.p.now.cpu c.step.new.b) (tabled_of c.step.new.m c.args.p.now.tables.made)) c.in-None.ensures.makes.0
     ∙ ended_same (processor_of c.args.p.now.cpu c.args.p.now.bnd) (processor_of c.args.p.now.cpu c.step.new.b) (tabled_of c.args.p.now.memory c.args.p.now.tables.made) (tabled_of c.make_table.new.m c.make_table.new.t.made) (record { heap = c.args.p.now.heap; input = input; out = out }) c.args.p.now.steps (run (tabled_store c.args.p.now.bnd.cfg) (processor_of c.args.p.now.cpu c.step.new.b) (row c.args.i.now c.args.next (processor_of c.args.p.now.cpu c.step.new.b)) (tabled_of c.make_table.new.m c.make_table.new.t.made)) refl
     ∙ ap (λ cfg. ended (state_with (processor_of c.args.p.now.cpu c.step.new.b) (tabled_of c.make_table.new.m c.make_table.new.t.made) (record { heap = c.args.p.now.heap; input = input; out = out }) c.args.p.now.steps) (run (tabled_store cfg) (processor_of c.args.p.now.cpu c.step.new.b) (row c.args.i.now c.args.next (processor_of c.args.p.now.cpu c.step.new.b)) (tabled_of c.make_table.new.m c.make_table.new.t.made))) (sym c.step.ensures.cfg)))
-    (executes_by _ (WalkLacks c.step.new.b.cfg (processor_of c.args.p.now.cpu c.step.new.b) c.args.i.now c.args.next c.make_table.new.m) (LacksFrames c.args.p.now c.args.i.now c.args.next) c.execute_again.new.p input out c.execute_again.result (λ a b h. inr (inr (inr (c.in-Err-Invalid.entry, processor_of c.args.p.now.cpu c.step.new.b, c.make_table.new.m, c.make_table.new.t.made, (mpx.framed_of c.step.new.m, (does_as (record { flags = flags_in c.args.p.now.cpu.flags; rip = c.args.p.now.cpu.rip }) (slice_index c.args.p.now.cpu.regs) c.args.next c.args.p.now.bnd c.step.new.b c.args.p.now.memory c.step.new.m c.args.i.now c.step.result (Err (bnd.Invalid c.in-Err-Invalid.entry)) (c.in-Err-Invalid.is ∙ ap Err c.in-Err-Invalid.field-0-is) (c.step.ensures.row (record { flags = flags_in c.args.p.now.cpu.flags; rip = c.args.p.now.cpu.rip })))),
+    (executes_by _ (WalkLacks c.step.new.b.cfg (processor_of c.args.p.now.cpu c.step.new.b) c.args.i.now c.args.next c.make_table.new.m) (LacksFrames c.args.p.now c.args.i.now c.args.next) c.execute_again.new.p input out c.execute_again.result (λ a b h. inr (inr (inr (
+      c.in-Err-Invalid.entry,
+      processor_of c.args.p.now.cpu c.step.new.b,
+      c.make_table.new.m,
+      c.make_table.new.t.made,
+      (mpx.framed_of c.step.new.m, (does_as (record { flags = flags_in c.args.p.now.cpu.flags; rip = c.args.p.now.cpu.rip }) (slice_index c.args.p.now.cpu.regs) c.args.next c.args.p.now.bnd c.step.new.b c.args.p.now.memory c.step.new.m c.args.i.now c.step.result (Err (bnd.Invalid c.in-Err-Invalid.entry)) (c.in-Err-Invalid.is ∙ ap Err c.in-Err-Invalid.field-0-is) (c.step.ensures.row (record { flags = flags_in c.args.p.now.cpu.flags; rip = c.args.p.now.cpu.rip })))),
       subst (λ (m : Paged). table_made (tabled_of m c.args.p.now.tables.made) c.in-Err-Invalid.entry ≡ Some (tabled_of c.make_table.new.m c.make_table.new.t.made)) (c.in-Err-Invalid.ensures.refused) c.in-None.ensures.makes.0,
       subst (λ (m : Paged). Touches 8 c.in-Err-Invalid.entry m c.make_table.new.m) (c.in-Err-Invalid.ensures.refused) c.in-None.ensures.makes.1,
-      subst (λ cfg. WalkLacks cfg (processor_of c.args.p.now.cpu c.step.new.b) c.args.i.now c.args.next c.make_table.new.m a b) c.step.ensures.cfg h))))
+      subst (λ cfg. WalkLacks cfg (processor_of c.args.p.now.cpu c.step.new.b) c.args.i.now c.args.next c.make_table.new.m a b) c.step.ensures.cfg h,
+    ))))
     (c.execute_again.ensures.does outers bare input out))
 
 pub returns-in-Some-clause-does : goal.returns-in-Some-clause-does

@@ -9,14 +9,13 @@ use Rattle.mx_run.proofs.executing.make_table.Goals as goal
 
 pub returns-in-Ok-clause-makes : goal.returns-in-Ok-clause-makes
 returns-in-Ok-clause-makes c = (
-    table_is_made c.args.m.now c.serve.new.m c.args.entry (named_entry (c.args.entry + 2)) c.args.t.now.made c.serve.new.t.made (named_again c.args.entry c.requires.entry) c.in-Ok.ensures.made c.in-Ok.ensures.answer.0,
-    subst (λ n. Touches 8 n c.args.m.now c.serve.new.m) (named_again c.args.entry c.requires.entry) c.in-Ok.ensures.answer.1,
-  )
+  table_is_made c.args.m.now c.serve.new.m c.args.entry (named_entry (c.args.entry + 2)) c.args.t.now.made c.serve.new.t.made (named_again c.args.entry c.requires.entry) c.in-Ok.ensures.made c.in-Ok.ensures.answer.0,
+  subst (λ n. Touches 8 n c.args.m.now c.serve.new.m) (named_again c.args.entry c.requires.entry) c.in-Ok.ensures.answer.1,
+)
 
 pub returns-in-Err-NoTable-clause-makes : goal.returns-in-Err-NoTable-clause-makes
 returns-in-Err-NoTable-clause-makes c =
-    let h = rw c.in-Err-NoTable.field-0-is at c.in-Err-NoTable.ensures.answer in
-    (
+    let h = rw c.in-Err-NoTable.field-0-is at c.in-Err-NoTable.ensures.answer in (
       no_table_is_made c.args.m.now c.args.entry (named_entry (c.args.entry + 2)) c.args.t.now.made (named_again c.args.entry c.requires.entry) h,
       λ j. tabled_of (c.in-Err-NoTable.ensures.refused.0 j) (c.in-Err-NoTable.ensures.refused.1 j).made,
     )

@@ -19,14 +19,18 @@ returns-in-Some-clause-serves g c bytes so_far told =
 
 pub returns-in-Value-clause-serves : goal.returns-in-Value-clause-serves
 returns-in-Value-clause-serves g c bytes so_far told =
-    let h = (gave ((meant (bytes_of c.args.p.now.memory) (slice_index c.args.p.now.cpu.regs 0) (slice_index c.args.p.now.cpu.regs 7) (slice_index c.args.p.now.cpu.regs 6) (slice_index c.args.p.now.cpu.regs 2) c.args.p.now.heap) bytes) (served (bytes_of c.args.p.now.memory) (bytes_judged c.args.bare c.args.from) (service_of (slice_index c.args.p.now.cpu.regs 0)) (slice_index c.args.p.now.cpu.regs 7) (slice_index c.args.p.now.cpu.regs 6) (slice_index c.args.p.now.cpu.regs 2) record { heap = c.args.p.now.heap; input = bytes; out = so_far }) c.in-Value.word c.args.p.now.heap c.call.new.heap (g.I.Source.left c.call.new.input) (g.O.Sink.held c.args.out.now) (g.O.Sink.held c.call.new.out) bytes so_far (served_shifted (bytes_of c.args.p.now.memory) c.args.bare c.args.from (slice_index c.args.p.now.cpu.regs 0) (slice_index c.args.p.now.cpu.regs 7) (slice_index c.args.p.now.cpu.regs 6) (slice_index c.args.p.now.cpu.regs 2) c.args.p.now.heap bytes so_far (sym c.write_strays.ensures ∙ c.in_default.is)) (call_ends (meant (bytes_of c.args.p.now.memory) (slice_index c.args.p.now.cpu.regs 0) (slice_index c.args.p.now.cpu.regs 7) (slice_index c.args.p.now.cpu.regs 6) (slice_index c.args.p.now.cpu.regs 2) c.args.p.now.heap) c.args.p.now.heap (g.I.Source.left c.args.input.now) (g.O.Sink.held c.args.out.now) (record { heap = c.call.new.heap; left = (g.I.Source.left c.call.new.input); held = (g.O.Sink.held c.call.new.out) }) (answer.Value c.in-Value.word) bytes told (subst (λ (a : Answer). Calls (meant (bytes_of c.args.p.now.memory) (slice_index c.args.p.now.cpu.regs 0) (slice_index c.args.p.now.cpu.regs 7) (slice_index c.args.p.now.cpu.regs 6) (slice_index c.args.p.now.cpu.regs 2) c.args.p.now.heap) (record { heap = c.args.p.now.heap; left = (g.I.Source.left c.args.input.now); held = (g.O.Sink.held c.args.out.now) }) (record { heap = c.call.new.heap; left = (g.I.Source.left c.call.new.input); held = (g.O.Sink.held c.call.new.out) }) a) c.in-Value.is c.call.ensures.answer))) in
-    (c.in-Value.word, record { heap = c.call.new.heap; input = h.rest; out = so_far ++ h.more }, h.is, record {
-      rest = h.rest;
-      more = h.more;
-      left = h.left;
-      adds = h.adds;
-      is = ap (λ (regs : ℕ → ℕ). state_with record { regs = regs; flags = flags_in c.args.p.now.cpu.flags; rip = c.args.p.now.cpu.rip; bounds = bounds_of c.args.p.now.bnd; preserve = preserves c.args.p.now.bnd.cfg; status = c.args.p.now.bnd.status } (tabled_of c.args.p.now.memory c.args.p.now.tables.made) record { heap = c.call.new.heap; input = h.rest; out = so_far ++ h.more } c.args.p.now.steps) (sym c.answer.ensures);
-    })
+    let h = (gave ((meant (bytes_of c.args.p.now.memory) (slice_index c.args.p.now.cpu.regs 0) (slice_index c.args.p.now.cpu.regs 7) (slice_index c.args.p.now.cpu.regs 6) (slice_index c.args.p.now.cpu.regs 2) c.args.p.now.heap) bytes) (served (bytes_of c.args.p.now.memory) (bytes_judged c.args.bare c.args.from) (service_of (slice_index c.args.p.now.cpu.regs 0)) (slice_index c.args.p.now.cpu.regs 7) (slice_index c.args.p.now.cpu.regs 6) (slice_index c.args.p.now.cpu.regs 2) record { heap = c.args.p.now.heap; input = bytes; out = so_far }) c.in-Value.word c.args.p.now.heap c.call.new.heap (g.I.Source.left c.call.new.input) (g.O.Sink.held c.args.out.now) (g.O.Sink.held c.call.new.out) bytes so_far (served_shifted (bytes_of c.args.p.now.memory) c.args.bare c.args.from (slice_index c.args.p.now.cpu.regs 0) (slice_index c.args.p.now.cpu.regs 7) (slice_index c.args.p.now.cpu.regs 6) (slice_index c.args.p.now.cpu.regs 2) c.args.p.now.heap bytes so_far (sym c.write_strays.ensures ∙ c.in_default.is)) (call_ends (meant (bytes_of c.args.p.now.memory) (slice_index c.args.p.now.cpu.regs 0) (slice_index c.args.p.now.cpu.regs 7) (slice_index c.args.p.now.cpu.regs 6) (slice_index c.args.p.now.cpu.regs 2) c.args.p.now.heap) c.args.p.now.heap (g.I.Source.left c.args.input.now) (g.O.Sink.held c.args.out.now) (record { heap = c.call.new.heap; left = (g.I.Source.left c.call.new.input); held = (g.O.Sink.held c.call.new.out) }) (answer.Value c.in-Value.word) bytes told (subst (λ (a : Answer). Calls (meant (bytes_of c.args.p.now.memory) (slice_index c.args.p.now.cpu.regs 0) (slice_index c.args.p.now.cpu.regs 7) (slice_index c.args.p.now.cpu.regs 6) (slice_index c.args.p.now.cpu.regs 2) c.args.p.now.heap) (record { heap = c.args.p.now.heap; left = (g.I.Source.left c.args.input.now); held = (g.O.Sink.held c.args.out.now) }) (record { heap = c.call.new.heap; left = (g.I.Source.left c.call.new.input); held = (g.O.Sink.held c.call.new.out) }) a) c.in-Value.is c.call.ensures.answer))) in (
+      c.in-Value.word,
+      record { heap = c.call.new.heap; input = h.rest; out = so_far ++ h.more },
+      h.is,
+      record {
+        rest = h.rest;
+        more = h.more;
+        left = h.left;
+        adds = h.adds;
+        is = ap (λ (regs : ℕ → ℕ). state_with record { regs = regs; flags = flags_in c.args.p.now.cpu.flags; rip = c.args.p.now.cpu.rip; bounds = bounds_of c.args.p.now.bnd; preserve = preserves c.args.p.now.bnd.cfg; status = c.args.p.now.bnd.status } (tabled_of c.args.p.now.memory c.args.p.now.tables.made) record { heap = c.call.new.heap; input = h.rest; out = so_far ++ h.more } c.args.p.now.steps) (sym c.answer.ensures);
+      },
+    )
 
 pub returns-in-Exit-clause-serves : goal.returns-in-Exit-clause-serves
 returns-in-Exit-clause-serves g c bytes so_far told = (gave_exit ((meant (bytes_of c.args.p.now.memory) (slice_index c.args.p.now.cpu.regs 0) (slice_index c.args.p.now.cpu.regs 7) (slice_index c.args.p.now.cpu.regs 6) (slice_index c.args.p.now.cpu.regs 2) c.args.p.now.heap) bytes) (served (bytes_of c.args.p.now.memory) (bytes_judged c.args.bare c.args.from) (service_of (slice_index c.args.p.now.cpu.regs 0)) (slice_index c.args.p.now.cpu.regs 7) (slice_index c.args.p.now.cpu.regs 6) (slice_index c.args.p.now.cpu.regs 2) record { heap = c.args.p.now.heap; input = bytes; out = so_far }) c.in-Exit.code c.args.p.now.heap c.call.new.heap (g.I.Source.left c.call.new.input) (g.O.Sink.held c.args.out.now) (g.O.Sink.held c.call.new.out) bytes so_far (served_shifted (bytes_of c.args.p.now.memory) c.args.bare c.args.from (slice_index c.args.p.now.cpu.regs 0) (slice_index c.args.p.now.cpu.regs 7) (slice_index c.args.p.now.cpu.regs 6) (slice_index c.args.p.now.cpu.regs 2) c.args.p.now.heap bytes so_far (sym c.write_strays.ensures ∙ c.in_default.is)) (call_ends (meant (bytes_of c.args.p.now.memory) (slice_index c.args.p.now.cpu.regs 0) (slice_index c.args.p.now.cpu.regs 7) (slice_index c.args.p.now.cpu.regs 6) (slice_index c.args.p.now.cpu.regs 2) c.args.p.now.heap) c.args.p.now.heap (g.I.Source.left c.args.input.now) (g.O.Sink.held c.args.out.now) (record { heap = c.call.new.heap; left = (g.I.Source.left c.call.new.input); held = (g.O.Sink.held c.call.new.out) }) (answer.Exit c.in-Exit.code) bytes told (subst (λ (a : Answer). Calls (meant (bytes_of c.args.p.now.memory) (slice_index c.args.p.now.cpu.regs 0) (slice_index c.args.p.now.cpu.regs 7) (slice_index c.args.p.now.cpu.regs 6) (slice_index c.args.p.now.cpu.regs 2) c.args.p.now.heap) (record { heap = c.args.p.now.heap; left = (g.I.Source.left c.args.input.now); held = (g.O.Sink.held c.args.out.now) }) (record { heap = c.call.new.heap; left = (g.I.Source.left c.call.new.input); held = (g.O.Sink.held c.call.new.out) }) a) c.in-Exit.is c.call.ensures.answer)))
