@@ -1,8 +1,21 @@
 -- How a command ends: the status, and the line on standard error.
-use Rattle.std.specs.Prelude.{ℕ, List, ◌++◌, false, codes}
+use Rattle.std.specs.Prelude.{ℕ, Bool, true, List, ◌++◌, false, codes}
 use Rattle.std.specs.Fmt.{decimal, digits}
+use Rattle.std.specs.declared.io.ErrorKind.{ErrorKind}
+use Rattle.std.specs.declared.io.ErrorKind.TheVariants.{OutOfMemory}
 use Rattle.mpx_main.specs.declared.end.End.{End}
 use Rattle.mpx_main.specs.declared.end.End.TheVariants.{Exit, Bounds, Missing, Unbuilt, WordsRefused, ReadFault, WriteFault, NoMemory}
+
+-- how a command ends whose words can't be had
+abbrev pub refusal_of : ErrorKind → End
+refusal_of OutOfMemory = NoMemory
+refusal_of kind = WordsRefused
+
+-- the ends that come before there are words
+abbrev pub ends_words : End → Bool
+ends_words NoMemory = true
+ends_words WordsRefused = true
+ends_words end = false
 
 abbrev pub status_of : End → ℕ
 status_of (Exit code) = 0

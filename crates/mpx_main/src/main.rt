@@ -1,5 +1,7 @@
 //! `mpxc`: the command line over files, standard input, standard output and standard error.
 #![tactic(auto)]
+ghost use Rattle.std.specs.Prelude.{◌≡◌, IsTrue, IfErr};
+ghost use Rattle.mpx_main.specs.Ends.{refusal_of, ends_words};
 
 mod end;
 mod line;
@@ -42,7 +44,9 @@ fn main(rt: HostRuntime) -> ExitCode {
 }
 
 /// The words after the program's name. A word that is not UTF-8 makes them no command.
-fn words_after_name(rt: &HostRuntime) -> Result<Vec<String>, End> {
+fn words_after_name(rt: &HostRuntime) -> Result<Vec<String>, End>
+    ensures { IfErr result (λ end. IsTrue (ends_words end)) }
+{
     let args = match env::args(rt) {
         Ok(args) => args,
         Err(error) => return Err(refusal(error.kind())),
@@ -53,7 +57,9 @@ fn words_after_name(rt: &HostRuntime) -> Result<Vec<String>, End> {
     }
 }
 
-fn refusal(kind: ErrorKind) -> End {
+fn refusal(kind: ErrorKind) -> End
+    ensures { result ≡ refusal_of kind }
+{
     match kind {
         ErrorKind::OutOfMemory => End::NoMemory,
         _ => End::WordsRefused,

@@ -1,6 +1,6 @@
 //! The outside over real files and streams, with a count of faults each. A proof is told nothing of what they hold.
 ghost use Rattle.std.specs.Prelude.{◌≡◌, None};
-ghost use Rattle.mx_base.specs.Outside.{Untold, Reads};
+ghost use Rattle.mx_base.specs.Outside.{Untold, HasRisen};
 
 use mx_base::{Failed, Files, Sink, Source};
 use std::io::{ErrorKind, Read, Seek, SeekFrom, Write};
@@ -26,6 +26,15 @@ impl<'a, R: rt::Files> RealFiles<'a, R> {
             write_faults: 0,
         }
     }
+
+    /// Counts a read that failed.
+    fn read_failed(&mut self) -> Failed
+        ensures reads { HasRisen self.old.read_faults self.new.read_faults }
+        ensures writes { self.new.write_faults ≡ self.old.write_faults }
+    {
+        self.read_faults = self.read_faults.saturating_add(1);
+        Failed
+    }
 }
 
 impl<'a, R: rt::Files> Files for RealFiles<'a, R> {
@@ -36,12 +45,19 @@ impl<'a, R: rt::Files> Files for RealFiles<'a, R> {
     ghost write_faults = { λ files. files.write_faults };
 
     fn read_at(&mut self, name: &str, at: u64, buf: &mut [u8]) -> Result<Option<usize>, Failed> {
-        match read_from(self.rt, name, at, buf) {
-            Ok(count) => Ok(count),
-            Err(failed) => {
-                self.read_faults = self.read_faults.saturating_add(1);
-                Err(failed)
-            }
+        let mut file = match fs::open(self.rt, name) {
+            Ok(file) => file,
+            Err(error) => return match error.kind() {
+                ErrorKind::NotFound | ErrorKind::NotADirectory => Ok(None),
+                _ => Err(self.read_failed()),
+            },
+        };
+        if file.seek(SeekFrom::Start(at)).is_err() {
+            return Err(self.read_failed());
+        }
+        match file.read(buf) {
+            Ok(count) => Ok(Some(count)),
+            Err(_) => Err(self.read_failed()),
         }
     }
 
@@ -61,30 +77,6 @@ impl<'a, R: rt::Files> Files for RealFiles<'a, R> {
 
     fn write_faults(&self) -> u64 {
         self.write_faults
-    }
-}
-
-fn read_from<R: rt::Files>(
-    rt: &R,
-    name: &str,
-    at: u64,
-    buf: &mut [u8],
-) -> Result<Option<usize>, Failed>
-    ensures { Reads Untold at buf.new result }
-{
-    let mut file = match fs::open(rt, name) {
-        Ok(file) => file,
-        Err(error) => return match error.kind() {
-            ErrorKind::NotFound | ErrorKind::NotADirectory => Ok(None),
-            _ => Err(Failed),
-        },
-    };
-    if file.seek(SeekFrom::Start(at)).is_err() {
-        return Err(Failed);
-    }
-    match file.read(buf) {
-        Ok(count) => Ok(Some(count)),
-        Err(_) => Err(Failed),
     }
 }
 

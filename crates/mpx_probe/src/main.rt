@@ -1,10 +1,12 @@
-//! Lets scripts reach the libraries: `decode`, `recode` and `step` read lines of hexadecimal bytes, `tokens` reads a file,
+//! Lets scripts reach the libraries: `decode`, `recode`, `step` and `mpx` read lines of hexadecimal bytes, `tokens` reads a file,
 //! `speed` repeats one call.
 //!
 //! `decode` prints `LENGTH FORM`, `Undefined` or `Short N` for each line, and `recode` the bytes of the spelling of what it
 //! read, or the same refusals. `step` reads `CODE STATE` and prints `STATE RESULT` after one instruction that isn't of MPX: a
 //! state is rip, the registers by number, an address, a byte of flags (CF is 1, ZF 2, SF 4, OF 8), and the 64 bytes of memory
-//! from that address on, with the lowest byte of a number first. `tokens FILE` prints the number of the file's tokens, or `KIND LINE:COL`. `speed CALL N` does
+//! from that address on, with the lowest byte of a number first. `mpx` does the same for an MPX instruction, or tells what a near
+//! branch makes of the bounds registers: its states have the bounds registers and three windows of memory (`src/mpx.rt`).
+//! `tokens FILE` prints the number of the file's tokens, or `KIND LINE:COL`. `speed CALL N` does
 //! so many calls and prints how many were done: `decode`, `encode`; loads and stores of memory within a page (`load-one`,
 //! `store-one`) and over 10,000 pages (`load-many`, `store-many`); a free and an alloc among 65,536 live blocks (`heap`), and
 //! an alloc and a free behind 32,767 small free ranges (`heap-gaps`). `speed touch N` touches so many pages and prints how many
@@ -14,12 +16,14 @@
 mod files;
 mod instructions;
 mod memory;
+mod mpx;
 mod speed;
 mod step;
 
 use files::tokens_line;
 use instructions::{decode_line, recode_line};
 use memory::{gaps_often, heap_often, load_often, store_often, touch_pages};
+use mpx::mpx_line;
 use mx_base::OutOfMemory;
 use speed::{decode_often, encode_often};
 use std::alloc::{AllocError, Global};
@@ -45,6 +49,7 @@ fn each_line<R: Input + Print + Alloc<A = Global>>(rt: &R, command: &str) -> io:
         "decode" => Answer::Form,
         "recode" => Answer::Bytes,
         "step" => Answer::State,
+        "mpx" => Answer::Bounds,
         _ => return Ok(false),
     };
     for line in rt.lines(rt.alloc()) {
@@ -61,6 +66,7 @@ enum Answer {
     Form,
     Bytes,
     State,
+    Bounds,
 }
 
 fn answer_line(alloc: Global, answer: Answer, line: &str) -> Result<String, AllocError> {
@@ -68,6 +74,7 @@ fn answer_line(alloc: Global, answer: Answer, line: &str) -> Result<String, Allo
         Answer::Form => decode_line(alloc, line),
         Answer::Bytes => recode_line(alloc, line),
         Answer::State => step_line(alloc, line),
+        Answer::Bounds => mpx_line(alloc, line),
     }
 }
 
