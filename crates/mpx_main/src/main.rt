@@ -5,6 +5,7 @@ ghost use Rattle.mpx_main.specs.Ends.{refusal_of, ends_words};
 
 mod end;
 mod line;
+mod options;
 mod real;
 mod report;
 mod run;

@@ -14,19 +14,73 @@ const STORES_AND_PUTS: &str = "char a[4];\nint main(void){ a[3]=1; put(a[3]); re
 
 const LEAVES: &str = "char a[4];\nint main(void){ put(7); a[4]=1; put(8); return 0; }";
 
-/// The calls that fail, by their numbers; the call 0 of the files puts the source there.
-#[derive(Clone, Copy)]
-struct Failing<'a> {
-    files: &'a [u64],
-    out: &'a [u64],
-    err: &'a [u64],
-}
+/// No call has this number.
+const NONE: u64 = u64::MAX;
 
-const NONE: Failing<'static> = Failing {
-    files: &[],
-    out: &[],
-    err: &[],
-};
+/// Commands where the one file `a.c` has a text: status, standard output and standard error.
+const COMMANDS: [(&str, &str, u8, &[u8], &str); 13] = [
+    ("run a.c", STORES_AND_PUTS, 0, &[1], "exit 0\n"),
+    (
+        "run a.c",
+        LEAVES,
+        10,
+        &[7],
+        "bounds: 0x20000004 outside [0x20000000, 0x20000003]\n",
+    ),
+    (
+        "run a.c",
+        "char z[4096];int main(void){return 255;}",
+        0,
+        &[],
+        "exit 255\n",
+    ),
+    (
+        "run a.c",
+        "char z[1]; int main(void){ put(z[65535]); return 0; }",
+        10,
+        &[],
+        "bounds: 0x2000ffff outside [0x20000000, 0x20000000]\n",
+    ),
+    ("run a.c", "", 1, &[], "a.c: Unbuilt\n"),
+    (
+        "run a.c",
+        "char a[4];\nint main(void){ a[03]=1; return 0; }",
+        1,
+        &[],
+        "a.c: Unbuilt\n",
+    ),
+    ("run none.c", "", 1, &[], "none.c: Missing\n"),
+    ("run", "", 2, &[], "words refused\n"),
+    ("run a.c a.c", "", 2, &[], "words refused\n"),
+    ("run a.s", "", 2, &[], "words refused\n"),
+    ("run -a.c", "", 2, &[], "words refused\n"),
+    ("exec a.c", "", 2, &[], "words refused\n"),
+    ("", "", 2, &[], "words refused\n"),
+];
+
+/// One failing call each of the files, of `out` and of `err`, by its number, and the room of `err`. The call 0 of the files
+/// puts the text there.
+const FAULTS: [((u64, u64, u64, usize), u8, &[u8], &str); 9] = [
+    ((1, NONE, NONE, 100), 3, &[], "read fault\n"),
+    ((2, NONE, NONE, 100), 3, &[], "read fault\n"),
+    (
+        (3, NONE, NONE, 100),
+        10,
+        &[7],
+        "bounds: 0x20000004 outside [0x20000000, 0x20000003]\n",
+    ),
+    ((NONE, 0, NONE, 100), 4, &[], "write fault\n"),
+    (
+        (NONE, 1, NONE, 100),
+        10,
+        &[7],
+        "bounds: 0x20000004 outside [0x20000000, 0x20000003]\n",
+    ),
+    ((NONE, NONE, 0, 100), 4, &[7], ""),
+    ((1, NONE, 0, 100), 4, &[], ""),
+    ((NONE, 0, 0, 100), 4, &[], ""),
+    ((NONE, NONE, NONE, 5), 4, &[7], "bound"),
+];
 
 #[derive(Drop)]
 struct Outcome {
@@ -35,17 +89,22 @@ struct Outcome {
     err: Vec<u8>,
 }
 
-/// Runs a command where the one file `a.c` has this text.
-fn run_line(alloc: Global, line: &str, text: &str, failing: Failing<'_>) -> Result<Outcome, Fail> {
+/// Runs a command where the one file `a.c` has this text, with these failing calls and this room.
+fn run_line(
+    alloc: Global,
+    line: &str,
+    text: &str,
+    fails: (u64, u64, u64, usize),
+) -> Result<Outcome, Fail> {
     let mut words = Vec::new(alloc);
     for word in line.split_whitespace() {
         words.push(String::from_str(alloc, word)?)?;
     }
-    let mut files = MemFiles::make(alloc, 2, 70000, failing.files)?;
+    let mut files = MemFiles::make(alloc, 2, 70000, &[fails.0])?;
     files.write_all("a.c", text.as_bytes())?;
     let mut input = MemSource::make(alloc, b"", &[])?;
-    let mut out = MemSink::make(alloc, 100, failing.out)?;
-    let mut err = MemSink::make(alloc, 100, failing.err)?;
+    let mut out = MemSink::make(alloc, 100, &[fails.1])?;
+    let mut err = MemSink::make(alloc, fails.3, &[fails.2])?;
     let status = run_words(
         alloc,
         words.as_slice(),
@@ -63,120 +122,15 @@ fn run_line(alloc: Global, line: &str, text: &str, failing: Failing<'_>) -> Resu
 
 #[test]
 fn rows(rt: HostRuntime) -> Result<(), Fail> {
-    let rows: [(&str, &str, u8, &[u8], &str); 13] = [
-        ("run a.c", STORES_AND_PUTS, 0, &[1], "exit 0\n"),
-        (
-            "run a.c",
-            LEAVES,
-            10,
-            &[7],
-            "bounds: 0x20000004 outside [0x20000000, 0x20000003]\n",
-        ),
-        (
-            "run a.c",
-            "char z[4096];int main(void){return 255;}",
-            0,
-            &[],
-            "exit 255\n",
-        ),
-        (
-            "run a.c",
-            "char z[1]; int main(void){ put(z[65535]); return 0; }",
-            10,
-            &[],
-            "bounds: 0x2000ffff outside [0x20000000, 0x20000000]\n",
-        ),
-        ("run a.c", "", 1, &[], "a.c: Unbuilt\n"),
-        (
-            "run a.c",
-            "char a[4];\nint main(void){ a[03]=1; return 0; }",
-            1,
-            &[],
-            "a.c: Unbuilt\n",
-        ),
-        ("run none.c", "", 1, &[], "none.c: Missing\n"),
-        ("run", "", 2, &[], "words refused\n"),
-        ("run a.c a.c", "", 2, &[], "words refused\n"),
-        ("run a.s", "", 2, &[], "words refused\n"),
-        ("run -a.c", "", 2, &[], "words refused\n"),
-        ("exec a.c", "", 2, &[], "words refused\n"),
-        ("", "", 2, &[], "words refused\n"),
-    ];
-    for (line, text, status, out, err) in rows {
-        let found = run_line(rt.alloc(), line, text, NONE)?;
-        assert_eq!(rt; found.status, status, "status of {line} on {text}");
-        assert_eq!(rt; found.out.as_slice(), out, "out of {line} on {text}");
-        assert_eq!(rt;
-            found.err.as_slice(),
-            err.as_bytes(),
-            "err of {line} on {text}"
-        );
+    for (line, text, status, out, err) in COMMANDS {
+        let found = run_line(rt.alloc(), line, text, (NONE, NONE, NONE, 100))?;
+        assert_eq!(rt; found.status, status, "{line} on {text}");
+        assert_eq!(rt; found.out.as_slice(), out);
+        assert_eq!(rt; found.err.as_slice(), err.as_bytes());
     }
-    Ok(())
-}
-
-#[test]
-fn failing_calls(rt: HostRuntime) -> Result<(), Fail> {
-    let rows: [(Failing<'_>, u8, &[u8], &str); 8] = [
-        (
-            Failing {
-                files: &[1],
-                ..NONE
-            },
-            3,
-            &[],
-            "read fault\n",
-        ),
-        (
-            Failing {
-                files: &[2],
-                ..NONE
-            },
-            3,
-            &[],
-            "read fault\n",
-        ),
-        (
-            Failing {
-                files: &[3],
-                ..NONE
-            },
-            10,
-            &[7],
-            "bounds: 0x20000004 outside [0x20000000, 0x20000003]\n",
-        ),
-        (Failing { out: &[0], ..NONE }, 4, &[], "write fault\n"),
-        (
-            Failing { out: &[1], ..NONE },
-            10,
-            &[7],
-            "bounds: 0x20000004 outside [0x20000000, 0x20000003]\n",
-        ),
-        (Failing { err: &[0], ..NONE }, 4, &[7], ""),
-        (
-            Failing {
-                files: &[1],
-                err: &[0],
-                ..NONE
-            },
-            4,
-            &[],
-            "",
-        ),
-        (
-            Failing {
-                out: &[0],
-                err: &[0],
-                ..NONE
-            },
-            4,
-            &[],
-            "",
-        ),
-    ];
-    for (failing, status, out, err) in rows {
-        let found = run_line(rt.alloc(), "run a.c", LEAVES, failing)?;
-        assert_eq!(rt; found.status, status);
+    for (fails, status, out, err) in FAULTS {
+        let found = run_line(rt.alloc(), "run a.c", LEAVES, fails)?;
+        assert_eq!(rt; found.status, status, "{fails:?}");
         assert_eq!(rt; found.out.as_slice(), out);
         assert_eq!(rt; found.err.as_slice(), err.as_bytes());
     }
@@ -190,35 +144,14 @@ fn length_of_a_file(rt: HostRuntime) -> Result<(), Fail> {
         text.push_str(" ")?;
     }
     assert_eq!(rt;
-        run_line(rt.alloc(), "run a.c", text.as_str(), NONE)?.status,
+        run_line(rt.alloc(), "run a.c", text.as_str(), (NONE, NONE, NONE, 100))?.status,
         0
     );
     text.push_str(" ")?;
     assert_eq!(rt;
-        run_line(rt.alloc(), "run a.c", text.as_str(), NONE)?.status,
+        run_line(rt.alloc(), "run a.c", text.as_str(), (NONE, NONE, NONE, 100))?.status,
         1
     );
-    Ok(())
-}
-
-#[test]
-fn sinks_with_little_room(rt: HostRuntime) -> Result<(), Fail> {
-    let alloc = rt.alloc();
-    let words = vec![in alloc; String::from_str(alloc, "run")?]?;
-    let mut files = MemFiles::make(alloc, 1, 1, &[])?;
-    let mut input = MemSource::make(alloc, b"", &[])?;
-    let mut out = MemSink::make(alloc, 0, &[])?;
-    let mut err = MemSink::make(alloc, 5, &[])?;
-    let status = run_words(
-        alloc,
-        words.as_slice(),
-        &mut files,
-        &mut input,
-        &mut out,
-        &mut err,
-    );
-    assert_eq!(rt; status, 4);
-    assert_eq!(rt; err.held(), b"words".as_slice());
     Ok(())
 }
 
@@ -231,7 +164,7 @@ fn runs_the_bytes(rt: HostRuntime) -> Result<(), Fail> {
     let code = lower_early(alloc, &program)?;
     let mut out = MemSink::make(alloc, 100, &[])?;
     let stop = run_early(alloc, code.as_slice(), program.size, &mut out)?;
-    let found = run_line(alloc, "run a.c", LEAVES, NONE)?;
+    let found = run_line(alloc, "run a.c", LEAVES, (NONE, NONE, NONE, 100))?;
     assert_eq!(rt;
         stop,
         EarlyStop::Bounds {

@@ -24,7 +24,7 @@ fn is_source(word: &str) -> bool
     is_file(word) && word.as_bytes().ends_with(b".c")
 }
 
-fn is_file(word: &str) -> bool
+pub fn is_file(word: &str) -> bool
     ensures { result ≡ is_file_word word.now }
 {
     1 <= word.len() && word.len() <= 255 && !word.as_bytes().starts_with(b"-")

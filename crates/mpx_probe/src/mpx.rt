@@ -1,5 +1,6 @@
 //! One MPX instruction, or what a near branch makes of the bounds registers, by the line.
-ghost use Rattle.std.specs.Prelude.{◌≤◌};
+ghost use Rattle.std.specs.Prelude.{◌≤◌, IsTrue};
+ghost use Rattle.x86_forms.specs.Validity.{valid_of};
 
 use byteorder::{ByteOrder, LittleEndian};
 use hex::{decode as from_hex, decode_to_slice, encode as to_hex};
@@ -82,7 +83,9 @@ fn done(
     next: u64,
     m: &mut Memory,
     instr: &Instr,
-) -> Option<Result<(), BndStop>> {
+) -> Option<Result<(), BndStop>>
+    requires { IsTrue (valid_of instr.now) }
+{
     if bounds(instr) && (b.cfg == RESETS || b.cfg == PRESERVES) {
         Some(step(b, regs, next, m, instr))
     } else {
