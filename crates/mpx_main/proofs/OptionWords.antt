@@ -1,9 +1,10 @@
 -- The words before the file, one by one, are the words of options.
-use Rattle.std.proofs.Common.{◌≡◌, ℕ, ◌^◌, ◌<◌, ◌≤◌, Bool, true, false, IsTrue, cond, Option, None, Some, Ok, Err, List, [], ◌∷◌, ◌++◌, length, refl, sym, ap, ◌∙◌, subst, arith}
+use Rattle.std.proofs.Common.{◌≡◌, ℕ, ◌^◌, ◌<◌, ◌≤◌, Bool, true, false, IsTrue, cond, map, Option, None, Some, Ok, Err, List, [], ◌∷◌, ◌++◌, length, refl, sym, ap, ◌∙◌, subst, arith}
 use Rattle.std.specs.Prelude.{Result, fold, codes, nat_lt, ◌&&◌}
+use Rattle.std.specs.Result.{result_ok}
 use Rattle.std.specs.Str.{bytes_eq, all_ascii_digits}
 use Rattle.std.specs.Str.Parse.{ParsesUnsigned, IsNumeral, digits_value, without_leading_plus}
-use Rattle.std.proofs.lemmas.Grind.{common_steps}
+use Rattle.std.proofs.lemmas.List.{map-append}
 use Rattle.std.proofs.lemmas.Bool.Decides.{nat_tests}
 use Rattle.std.proofs.lemmas.Str.Parse.{IsNumeralModel, numerals_by_value, tells_all_ascii_digits}
 use Rattle.std.proofs.lemmas.Slice.Eq.{bytes_eq-Decides}
@@ -13,7 +14,7 @@ use Rattle.mpx_main.specs.declared.options.Seen.{Seen}
 use Rattle.mpx_main.specs.declared.options.Seen.TheVariants.{Options, AwaitsTurns, AwaitsFrames, Refused}
 use Rattle.mpx_main.specs.declared.options.TheConstants.{NOTHING}
 use Rattle.mpx_main.specs.Words.{is_file_word}
-use Rattle.mpx_main.specs.Options.{Choice, Turns, Frames, Preserve, Bare, spelled, all_spelled, is_number, number_of, pick, picks, and_then, settings_of, IsExec, fine, seen_first, seen_after}
+use Rattle.mpx_main.specs.Options.{Choice, Turns, Frames, Preserve, Bare, spelled, all_spelled, is_number, number_of, pick, picks, and_then, settings_of, IsExec, fine, seen_after}
 
 -- ---- numbers
 
@@ -32,31 +33,37 @@ parts_true true true false e = absurd (cc)
 parts_true true false c e = absurd (cc)
 parts_true false b c e = absurd (cc)
 
+small : (n : ℕ) → nat_lt n 0x1_0000_0000_0000_0000 ≡ true → n < 2 ^ 64
+small n e = grind (arith, nat_tests, e)
+
+is_small : (n : ℕ) → n < 2 ^ 64 → nat_lt n 0x1_0000_0000_0000_0000 ≡ true
+is_small n h = grind (arith, nat_tests, h)
+
+some : (n : ℕ) → nat_lt 0 n ≡ true → 0 < n
+some n e = grind (arith, nat_tests, e)
+
+is_some : (n : ℕ) → 0 < n → nat_lt 0 n ≡ true
+is_some n h = grind (arith, nat_tests, h)
+
 tells : (t : List ℕ) → IsNumeral 10 t × (digits_value 10 t < 2 ^ 64) → is_numeral t ≡ true
-tells t h = both_true _ _ _ (grind (arith, nat_tests, h.0.0)) (own.from t h.0.1) (grind (arith, nat_tests, h.1))
+tells t h = both_true _ _ _ (is_some (length t) h.0.0) (own.from t h.0.1) (is_small (digits_value 10 t) h.1)
 
 told : (t : List ℕ) → is_numeral t ≡ true → IsNumeral 10 t × (digits_value 10 t < 2 ^ 64)
 told t e =
-    let h = parts_true _ _ _ e in
-    let some : 0 < length t = grind (arith, nat_tests, h.0) in
-    let small : digits_value 10 t < 2 ^ 64 = grind (arith, nat_tests, h.2) in
-    ((some, own.to t h.1), small)
-
-abbrev ok_of : {E : Type 0} → Result ℕ E → Option ℕ
-ok_of (Ok n) = Some n
-ok_of (Err e) = None
+    let h = parts_true (nat_lt 0 (length t)) (all_ascii_digits t) (nat_lt (digits_value 10 t) 0x1_0000_0000_0000_0000) e in
+    ((some (length t) h.0, own.to t h.1), small (digits_value 10 t) h.2)
 
 chosen : (b : Bool) (n : ℕ) → b ≡ true → cond b (Some n) None ≡ Some n
 chosen b n e = rw e
 
 not_chosen : (b : Bool) (n : ℕ) → (b ≡ true → ⊥) → None ≡ cond b (Some n) None
-not_chosen true n no = absurd (no refl)
-not_chosen false n no = refl
+not_chosen true n never = absurd (never refl)
+not_chosen false n never = refl
 
 -- what `parse` reads is the number of the word
-pub number_parsed : {E : Type 0} (word : List ℕ) (r : Result ℕ E) → ParsesUnsigned 64 10 word r → ok_of r ≡ number_of word
+pub number_parsed : {E : Type 0} (word : List ℕ) (r : Result ℕ E) → ParsesUnsigned 64 10 word r → result_ok r ≡ number_of word
 number_parsed word (Ok n) h = ap Some h.1 ∙ sym (chosen (is_number word) _ (tells (without_leading_plus word) h.0))
-number_parsed word (Err e) no = not_chosen (is_number word) _ (λ e. no (told (without_leading_plus word) e))
+number_parsed word (Err e) never = not_chosen (is_number word) _ (λ e. never (told (without_leading_plus word) e))
 
 -- ---- options
 
@@ -205,3 +212,7 @@ exec_short (name ∷ []) settings f le h =
     let tails : [] ≡ all_spelled h.choices ++ (f ∷ []) = cc h.spells in
     no_snoc (all_spelled h.choices) f (sym tails)
 exec_short (name ∷ word ∷ words) settings f le h = absurd (omega arith)
+
+-- the words of a list by its first, its last and those between
+pub outer_words : {X : Type 0} (f : X → List ℕ) (words rest between : List X) (first last : X) → words ≡ first ∷ rest → rest ≡ between ++ (last ∷ []) → map f words ≡ f first ∷ (map f between ++ (f last ∷ []))
+outer_words {X} f words rest between first last e h = ap (map f) (e ∙ ap (λ (t : List X). first ∷ t) h) ∙ ap (λ (t : List (List ℕ)). f first ∷ t) (map-append f between (last ∷ []))

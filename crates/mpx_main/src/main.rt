@@ -1,5 +1,6 @@
 //! `mpxc`: the command line over files, standard input, standard output and standard error.
 #![tactic(auto)]
+
 ghost use Rattle.std.specs.Prelude.{◌≡◌, IsTrue, IfErr};
 ghost use Rattle.mpx_main.specs.Ends.{refusal_of, ends_words};
 

@@ -1,5 +1,5 @@
 //! The words of `exec`: options, each at most once, and then a file.
-ghost use Rattle.std.specs.Prelude.{◌≡◌, ◌≤◌, List, ℕ, map, fold, string_bytes, length, MatchOption};
+ghost use Rattle.std.specs.Prelude.{◌≡◌, ◌≤◌, List, ℕ, map, fold, string_bytes, length, MatchOption, ◌∷◌, ◌++◌, []};
 ghost use Rattle.mpx_main.specs.Options.{Choice, Turns, Frames, Preserve, Bare, number_of, pick, fine, seen_after, seen_first, settings_of, IsExec};
 
 use crate::word::is_file;
@@ -170,19 +170,37 @@ impl Picked {
     }
 }
 
+/// The first word, the words between, and the last.
+#[derive(Clone, Copy)]
+struct Outer<'a> {
+    first: &'a str,
+    between: &'a [String],
+    last: &'a str,
+}
+
+fn ends(words: &[String]) -> Option<Outer<'_>>
+    ensures { MatchOption result (length words.now ≤ 1) (λ e. map string_bytes words.now ≡ e.first.now ∷ (map string_bytes e.between.now ++ (e.last.now ∷ []))) }
+{
+    let (first, rest) = words.split_first()?;
+    let (last, between) = rest.split_last()?;
+    Some(Outer {
+        first: first.as_str(),
+        between,
+        last: last.as_str(),
+    })
+}
+
 /// The settings and the file of the command `exec`, if the words are one.
 pub fn exec_words(words: &[String]) -> Option<(Settings, &str)>
     ensures means { MatchOption result ((settings : Settings) (file : List ℕ) → IsExec (map string_bytes words.now) settings file → ⊥) (λ r. IsExec (map string_bytes words.now) r.0 r.1.now) }
     ensures short { MatchOption result (Unit {0}) (λ r. length r.1.now ≤ 255) }
 {
-    let (name, rest) = words.split_first()?;
-    let (last, options) = rest.split_last()?;
-    let file = last.as_str();
-    if name.as_str() != "exec" || !is_file(file) {
+    let outer = ends(words)?;
+    if outer.first != "exec" || !is_file(outer.last) {
         return None;
     }
-    match before_file(options) {
-        Seen::Options(picked) => Some((picked.settings(), file)),
+    match before_file(outer.between) {
+        Seen::Options(picked) => Some((picked.settings(), outer.last)),
         _ => None,
     }
 }

@@ -1,6 +1,7 @@
 //! The outside over real files and streams, with a count of faults each. A proof is told nothing of what they hold.
 ghost use Rattle.std.specs.Prelude.{◌≡◌, None};
-ghost use Rattle.mx_base.specs.Outside.{Untold, HasRisen};
+ghost use Rattle.std.specs.Io.KnownBytes.{ReadConsumes};
+ghost use Rattle.mx_base.specs.Outside.{Untold, HasRisen, Takes, Counts};
 
 use mx_base::{Failed, Files, Sink, Source};
 use std::io::{ErrorKind, Read, Seek, SeekFrom, Write};
@@ -101,7 +102,11 @@ impl<R: Read> Source for RealSource<R> {
 
     ghost faults = { λ source. source.faults };
 
-    fn take(&mut self, buf: &mut [u8]) -> Result<usize, Failed> {
+    fn take(&mut self, buf: &mut [u8]) -> Result<usize, Failed>
+        ensures answer { Takes None None buf.new result }
+        ensures faults { Counts result self.old.faults self.new.faults }
+        ensures relays { ReadConsumes (R.remaining self.old.reader) (R.remaining self.new.reader) result buf.new }
+    {
         match self.reader.read(buf) {
             Ok(count) => Ok(count),
             Err(_) => {

@@ -144,12 +144,24 @@ fn length_of_a_file(rt: HostRuntime) -> Result<(), Fail> {
         text.push_str(" ")?;
     }
     assert_eq!(rt;
-        run_line(rt.alloc(), "run a.c", text.as_str(), (NONE, NONE, NONE, 100))?.status,
+        run_line(
+            rt.alloc(),
+            "run a.c",
+            text.as_str(),
+            (NONE, NONE, NONE, 100)
+        )?
+        .status,
         0
     );
     text.push_str(" ")?;
     assert_eq!(rt;
-        run_line(rt.alloc(), "run a.c", text.as_str(), (NONE, NONE, NONE, 100))?.status,
+        run_line(
+            rt.alloc(),
+            "run a.c",
+            text.as_str(),
+            (NONE, NONE, NONE, 100)
+        )?
+        .status,
         1
     );
     Ok(())

@@ -1,4 +1,4 @@
-use Rattle.std.proofs.Common.{◌≡◌, List, map, take}
+use Rattle.std.proofs.Common.{◌≡◌, map, take}
 use Rattle.std.specs.Prelude.{fold, string_bytes}
 use Rattle.mpx_main.specs.declared.options.Seen.TheVariants.{Options}
 use Rattle.mpx_main.specs.declared.options.TheConstants.{NOTHING}

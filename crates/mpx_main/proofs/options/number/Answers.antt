@@ -1,5 +1,6 @@
-use Rattle.mpx_main.proofs.OptionWords.{number_parsed, ok_of}
+use Rattle.std.proofs.Common.{◌∙◌}
+use Rattle.mpx_main.proofs.OptionWords.{number_parsed}
 use Rattle.mpx_main.proofs.options.number.Goals as goal
 
 pub returns : goal.returns
-returns c = let e = number_parsed c.args.word.now c.parse.result c.parse.ensures.value.0 in ?
+returns c = c.ok.ensures.value ∙ number_parsed c.args.word.now c.parse.result c.parse.ensures.value.0
