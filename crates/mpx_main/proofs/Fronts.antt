@@ -11,12 +11,12 @@ take_ended n m xs e le =
     let short : length xs ≤ n = omega (arith, length-drop n xs, ap length e) in
     take_all n xs short ∙ sym (take_all m xs (omega arith))
 
-ended_at : (facts : FileFacts) (at : ℕ) (buf bytes : List ℕ) → IsReadFrom facts bytes → at ≡ length bytes → length bytes ≤ 65537 → Reads {E = Failed} facts at buf (Ok (Some 0)) → 0 < length buf → IsFrontOf facts bytes
-ended_at Untold at buf bytes r e le h pos = le
-ended_at Absent at buf bytes r e le h pos = h.1
-ended_at (Holds held) at buf bytes r e le h pos =
+ended_at : (most : ℕ) (facts : FileFacts) (at : ℕ) (buf bytes : List ℕ) → IsReadFrom facts bytes → at ≡ length bytes → length bytes ≤ most → Reads {E = Failed} facts at buf (Ok (Some 0)) → 0 < length buf → IsFrontOf most facts bytes
+ended_at most Untold at buf bytes r e le h pos = le
+ended_at most Absent at buf bytes r e le h pos = h.1
+ended_at most (Holds held) at buf bytes r e le h pos =
     let ended : drop (length bytes) held ≡ [] = subst (λ (n : ℕ). drop n held ≡ []) e (h.1.ends refl pos) in
-    r ∙ take_ended (length bytes) 65537 held ended le
+    r ∙ take_ended (length bytes) most held ended le
 
 more_at : (facts : FileFacts) (at n : ℕ) (buf bytes : List ℕ) → IsReadFrom facts bytes → at ≡ length bytes → Reads {E = Failed} facts at buf (Ok (Some n)) → IsReadFrom facts (bytes ++ take n buf)
 more_at Untold at n buf bytes r e h = tt
@@ -30,9 +30,9 @@ answered : (was facts : FileFacts) (at k : ℕ) (o : Option ℕ) (buf : List ℕ
 answered was facts at k o buf e is h = subst (λ (f : FileFacts). Reads {E = Failed} f at buf (Ok (Some k))) e (subst (λ (p : Option ℕ). Reads {E = Failed} was at buf (Ok p)) is h)
 
 -- at the end of a file, what was read of it is its front
-pub front_ended : (was facts : FileFacts) (at k : ℕ) (o : Option ℕ) (buf bytes : List ℕ) → was ≡ facts → o ≡ Some k → k ≡ 0 → Reads {E = Failed} was at buf (Ok o) → IsReadFrom facts bytes → at ≡ length bytes → length bytes ≤ 65537 → 0 < length buf → IsFrontOf facts bytes
-front_ended was facts at k o buf bytes e is z h r eq le pos =
-    ended_at facts at buf bytes r eq le (subst (λ (n : ℕ). Reads {E = Failed} facts at buf (Ok (Some n))) z (answered was facts at k o buf e is h)) pos
+pub front_ended : (most : ℕ) (was facts : FileFacts) (at k : ℕ) (o : Option ℕ) (buf bytes : List ℕ) → was ≡ facts → o ≡ Some k → k ≡ 0 → Reads {E = Failed} was at buf (Ok o) → IsReadFrom facts bytes → at ≡ length bytes → length bytes ≤ most → 0 < length buf → IsFrontOf most facts bytes
+front_ended most was facts at k o buf bytes e is z h r eq le pos =
+    ended_at most facts at buf bytes r eq le (subst (λ (n : ℕ). Reads {E = Failed} facts at buf (Ok (Some n))) z (answered was facts at k o buf e is h)) pos
 
 -- one chunk more
 pub front_more : (was facts : FileFacts) (at k : ℕ) (o : Option ℕ) (buf bytes : List ℕ) → was ≡ facts → o ≡ Some k → Reads {E = Failed} was at buf (Ok o) → IsReadFrom facts bytes → at ≡ length bytes → IsReadFrom facts (bytes ++ take k buf)
@@ -43,13 +43,13 @@ pub chunk_fits : (facts : FileFacts) (at k : ℕ) (o : Option ℕ) (buf : List �
 chunk_fits facts at k o buf is h = (answered facts facts at k o buf refl is h).0
 
 -- enough of a file
-pub front_cut : (facts : FileFacts) (bytes : List ℕ) → IsReadFrom facts bytes → 65537 ≤ length bytes → IsFrontOf facts (take 65537 bytes)
-front_cut Untold bytes r le = omega (arith, length-take 65537 bytes)
-front_cut Absent bytes r le = absurd (omega (arith, ap length r))
-front_cut (Holds held) bytes r le =
-    let more : length bytes ≡ 65537 + (length bytes - 65537) = omega arith in
-    let cut : bytes ≡ take (65537 + (length bytes - 65537)) held = subst (λ (n : ℕ). bytes ≡ take n held) more r in
+pub front_cut : (most : ℕ) (facts : FileFacts) (bytes : List ℕ) → 0 < most → IsReadFrom facts bytes → most ≤ length bytes → IsFrontOf most facts (take most bytes)
+front_cut most Untold bytes some r le = omega (arith, length-take most bytes)
+front_cut most Absent bytes some r le = absurd (omega (arith, ap length r))
+front_cut most (Holds held) bytes some r le =
+    let more : length bytes ≡ most + (length bytes - most) = omega arith in
+    let cut : bytes ≡ take (most + (length bytes - most)) held = subst (λ (n : ℕ). bytes ≡ take n held) more r in
     let long : length bytes ≡ min (length bytes) (length held) = ap length r ∙ length-take (length bytes) held in
-    let front : length (take 65537 held) ≡ 65537 = length-take-le 65537 held (omega arith) in
-    ap (λ (t : List ℕ). take 65537 t) (cut ∙ take-add 65537 (length bytes - 65537) held)
-    ∙ (take-append-le 65537 (take 65537 held) _ (omega arith) ∙ take_all 65537 (take 65537 held) (omega arith))
+    let front : length (take most held) ≡ most = length-take-le most held (omega arith) in
+    ap (λ (t : List ℕ). take most t) (cut ∙ take-add most (length bytes - most) held)
+    ∙ (take-append-le most (take most held) _ (omega arith) ∙ take_all most (take most held) (omega arith))

@@ -1,5 +1,6 @@
 pub mod Fronts
 pub mod Hex
+pub mod Names
 pub mod OptionWords
 pub mod Programs
 pub mod Puts

@@ -10,7 +10,8 @@ use Rattle.mpx_main.specs.declared.end.End.TheVariants.{Unbuilt}
 use Rattle.mpx_main.specs.Due.{Due, run_due, IsDueForText, IsProgram, IsNoProgram, IsDueForFile, Works}
 use Rattle.std.specs.declared.vec.Vec.{Vec}
 use Rattle.std.specs.Global.{Global}
-use Rattle.mpx_main.specs.Sources.{IsFrontOf, ReadsSource}
+use Rattle.mpx_main.specs.Sources.{IsFrontOf, ReadsFront}
+use Rattle.mpx_main.specs.declared.source_file.TheConstants.{ENOUGH}
 use Rattle.mpx_main.proofs.Puts.{adds_nothing}
 
 -- a text that spells no program is refused, and nothing is put
@@ -33,7 +34,7 @@ whole : (held : List ℕ) → length held ≤ 65536 → take 65537 held ≡ held
 whole held le = take_all 65537 held (omega arith)
 
 -- what is due for a file is due for the front of it that was read
-pub file_text : (facts : FileFacts) (bytes : List ℕ) (due : Due) → IsFrontOf facts bytes → IsDueForFile facts due → IsDueForText bytes due
+pub file_text : (facts : FileFacts) (bytes : List ℕ) (due : Due) → IsFrontOf ENOUGH facts bytes → IsDueForFile facts due → IsDueForText bytes due
 file_text Untold bytes due f d = absurd d
 file_text Absent bytes due f d = absurd f
 file_text (Holds held) bytes due f (IsProgram size acts code early e) =
@@ -44,7 +45,7 @@ file_text (Holds held) bytes due f (IsNoProgram none e) =
     none size acts code (subst (λ (xs : List ℕ). IsEarly xs size acts code) (f ∙ whole held short) early)) e
 
 -- the same, as reading answered it
-pub file_read : (facts : FileFacts) (o : Option (Vec ℕ Global)) (v : Vec ℕ Global) (bytes : List ℕ) (due : Due) → bytes ≡ v.items → o ≡ Some v → ReadsSource facts (Ok o) → IsDueForFile facts due → IsDueForText bytes due
+pub file_read : (facts : FileFacts) (o : Option (Vec ℕ Global)) (v : Vec ℕ Global) (bytes : List ℕ) (due : Due) → bytes ≡ v.items → o ≡ Some v → ReadsFront ENOUGH facts (Ok o) → IsDueForFile facts due → IsDueForText bytes due
 file_read facts o v bytes due same is h d =
-    let front : IsFrontOf facts v.items = subst (λ (p : Option (Vec ℕ Global)). ReadsSource facts (Ok p)) is h in
+    let front : IsFrontOf ENOUGH facts v.items = subst (λ (p : Option (Vec ℕ Global)). ReadsFront ENOUGH facts (Ok p)) is h in
     subst (λ (xs : List ℕ). IsDueForText xs due) (sym same) (file_text facts v.items due front d)

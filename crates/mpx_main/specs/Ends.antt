@@ -4,7 +4,7 @@ use Rattle.std.specs.Fmt.{decimal, digits}
 use Rattle.std.specs.declared.io.ErrorKind.{ErrorKind}
 use Rattle.std.specs.declared.io.ErrorKind.TheVariants.{OutOfMemory}
 use Rattle.mpx_main.specs.declared.end.End.{End}
-use Rattle.mpx_main.specs.declared.end.End.TheVariants.{Exit, Bounds, Missing, Unbuilt, WordsRefused, ReadFault, WriteFault, NoMemory}
+use Rattle.mpx_main.specs.declared.end.End.TheVariants.{Exit, Bounds, Missing, Unbuilt, FileLarge, BadForm, WordsRefused, ReadFault, WriteFault, NoMemory}
 
 -- how a command ends whose words can't be had
 abbrev pub refusal_of : ErrorKind → End
@@ -21,6 +21,8 @@ abbrev pub status_of : End → ℕ
 status_of (Exit code) = 0
 status_of Missing = 1
 status_of Unbuilt = 1
+status_of FileLarge = 1
+status_of (BadForm at) = 1
 status_of WordsRefused = 2
 status_of ReadFault = 3
 status_of WriteFault = 4
@@ -37,6 +39,8 @@ text_of file (Exit code) = codes "exit " ++ decimal code
 text_of file (Bounds value lb ub) = codes "bounds: 0x" ++ hex value ++ codes " outside [0x" ++ hex lb ++ codes ", 0x" ++ hex ub ++ codes "]"
 text_of file Missing = file ++ codes ": Missing"
 text_of file Unbuilt = file ++ codes ": Unbuilt"
+text_of file FileLarge = file ++ codes ": FileLarge"
+text_of file (BadForm at) = file ++ codes ": BadForm at " ++ decimal at
 text_of file WordsRefused = codes "words refused"
 text_of file ReadFault = codes "read fault"
 text_of file WriteFault = codes "write fault"

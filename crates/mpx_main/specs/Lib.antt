@@ -3,4 +3,5 @@ pub mod Ends
 pub mod Options
 pub mod Sinks
 pub mod Sources
+pub mod StopLines
 pub mod Words

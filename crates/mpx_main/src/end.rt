@@ -13,6 +13,10 @@ pub enum End {
     Missing,
     /// The file is not of a form that is built today.
     Unbuilt,
+    /// The file has more bytes than a file may have.
+    FileLarge,
+    /// The bytes of the file are no image; the first field that is cut or breaks its rule has this offset.
+    BadForm { at: u64 },
     /// The words are no command.
     WordsRefused,
     /// A read of a file failed.
@@ -30,7 +34,7 @@ impl End {
     {
         match self {
             End::Exit(_) => 0,
-            End::Missing | End::Unbuilt => 1,
+            End::Missing | End::Unbuilt | End::FileLarge | End::BadForm { .. } => 1,
             End::WordsRefused => 2,
             End::ReadFault => 3,
             End::WriteFault => 4,

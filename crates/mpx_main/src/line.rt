@@ -9,7 +9,7 @@ use arrayvec::ArrayVec;
 use itoa::Buffer;
 
 /// Room for the longest line: a name has at most 255 bytes.
-pub type Line = ArrayVec<u8, 512>;
+pub type Line = ArrayVec<u8, 640>;
 
 /// The line for an end; `file` is the name of the command's file as it was given.
 pub fn make_line(file: &str, end: &End) -> Line
@@ -20,7 +20,7 @@ pub fn make_line(file: &str, end: &End) -> Line
     match end {
         End::Exit(code) => {
             push(&mut line, b"exit ");
-            push_decimal(&mut line, *code);
+            push_decimal(&mut line, u64::from(*code));
         }
         End::Bounds { value, lb, ub } => push_bounds(&mut line, *value, *lb, *ub),
         End::Missing => {
@@ -31,6 +31,15 @@ pub fn make_line(file: &str, end: &End) -> Line
             push(&mut line, file.as_bytes());
             push(&mut line, b": Unbuilt");
         }
+        End::FileLarge => {
+            push(&mut line, file.as_bytes());
+            push(&mut line, b": FileLarge");
+        }
+        End::BadForm { at } => {
+            push(&mut line, file.as_bytes());
+            push(&mut line, b": BadForm at ");
+            push_decimal(&mut line, *at);
+        }
         End::WordsRefused => push(&mut line, b"words refused"),
         End::ReadFault => push(&mut line, b"read fault"),
         End::WriteFault => push(&mut line, b"write fault"),
@@ -40,10 +49,11 @@ pub fn make_line(file: &str, end: &End) -> Line
     line
 }
 
-fn push_bounds(line: &mut Line, value: u64, lb: u64, ub: u64)
+/// What was left, and by what.
+pub fn push_bounds(line: &mut Line, value: u64, lb: u64, ub: u64)
     requires { array_vec_len line.old ≡ 0 }
     ensures items { line.new.items ≡ line.old.items ++ (codes "bounds: 0x" ++ hex value ++ codes " outside [0x" ++ hex lb ++ codes ", 0x" ++ hex ub ++ codes "]") }
-    ensures len { array_vec_len line.new ≤ 400 }
+    ensures len { array_vec_len line.new ≤ 250 }
 {
     push(line, b"bounds: 0x");
     push_hex(line, value);
@@ -54,8 +64,9 @@ fn push_bounds(line: &mut Line, value: u64, lb: u64, ub: u64)
     push(line, b"]");
 }
 
-fn push(line: &mut Line, text: &[u8])
-    requires { array_vec_len line.old + length text.now ≤ 512 }
+/// Text.
+pub fn push(line: &mut Line, text: &[u8])
+    requires { array_vec_len line.old + length text.now ≤ 640 }
     ensures items { line.new.items ≡ line.old.items ++ text.now }
     ensures len { array_vec_len line.new ≡ array_vec_len line.old + length text.now }
 {
@@ -65,8 +76,9 @@ fn push(line: &mut Line, text: &[u8])
     }
 }
 
-fn push_decimal(line: &mut Line, n: u8)
-    requires { array_vec_len line.old + 40 ≤ 512 }
+/// A number in decimal digits.
+pub fn push_decimal(line: &mut Line, n: u64)
+    requires { array_vec_len line.old + 40 ≤ 640 }
     ensures items { line.new.items ≡ line.old.items ++ decimal n }
     ensures len { array_vec_len line.new ≤ array_vec_len line.old + 40 }
 {
@@ -74,8 +86,9 @@ fn push_decimal(line: &mut Line, n: u8)
     push(line, buffer.format(n).as_bytes());
 }
 
-fn push_hex(line: &mut Line, n: u64)
-    requires { array_vec_len line.old + 64 ≤ 512 }
+/// A number in lower-case hexadecimal digits without leading zeros.
+pub fn push_hex(line: &mut Line, n: u64)
+    requires { array_vec_len line.old + 64 ≤ 640 }
     ensures items { line.new.items ≡ line.old.items ++ hex n }
     ensures len { array_vec_len line.new ≤ array_vec_len line.old + 64 }
 {

@@ -12,6 +12,7 @@ mod report;
 mod run;
 mod sink;
 mod source_file;
+mod stop_line;
 #[cfg(test)]
 mod tests;
 mod word;

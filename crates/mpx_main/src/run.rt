@@ -9,7 +9,7 @@ ghost use Rattle.mpx_main.specs.Words.{command_of};
 
 use crate::end::End;
 use crate::report::report;
-use crate::source_file::{SourceFault, read_source};
+use crate::source_file::{ENOUGH, SourceFault, read_front};
 use crate::word::run_file;
 use c_reader::{Early, EarlyFault, read_early};
 use mx_base::{Files, OutOfMemory, Sink, Source};
@@ -62,7 +62,7 @@ fn run_source<F: Files, O: Sink>(alloc: Global, name: &str, files: &mut F, out: 
     ensures write_faults { F.write_faults files.new ≡ F.write_faults files.old }
     ensures never { result ≢ End.WordsRefused }
 {
-    match read_source(alloc, files, name) {
+    match read_front(alloc, files, name, ENOUGH) {
         Err(SourceFault::Failed) => End::ReadFault,
         Err(SourceFault::OutOfMemory) => End::NoMemory,
         Ok(None) => End::Missing,

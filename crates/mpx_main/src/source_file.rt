@@ -1,6 +1,6 @@
-//! The bytes of a source file.
-ghost use Rattle.std.specs.Prelude.{◌≡◌, ℕ, List};
-ghost use Rattle.mpx_main.specs.Sources.{ReadsSource, ReadCounts};
+//! The bytes of a file.
+ghost use Rattle.std.specs.Prelude.{◌≡◌, ◌<◌, ◌≤◌, ℕ, List};
+ghost use Rattle.mpx_main.specs.Sources.{ReadsFront, ReadCounts};
 
 use mx_base::{Failed, Files, OutOfMemory};
 use std::alloc::{AllocError, Global};
@@ -15,20 +15,23 @@ pub enum SourceFault {
     OutOfMemory,
 }
 
-/// The first `ENOUGH` bytes of the file, or all of them if it has fewer; `None` if there is no such file.
-pub fn read_source<F: Files>(
+/// The first `most` bytes of the file, or all of them if it has fewer; `None` if there is no such file.
+pub fn read_front<F: Files>(
     alloc: Global,
     files: &mut F,
     name: &str,
+    most: usize,
 ) -> Result<Option<Vec<u8>>, SourceFault>
-    ensures bytes { ReadsSource (F.contents files.old name.now) result }
+    requires some { 0 < most }
+    requires few { most ≤ 0x4000_0000 }
+    ensures bytes { ReadsFront most (F.contents files.old name.now) result }
     ensures contents { (n : List ℕ) → F.contents files.new n ≡ F.contents files.old n }
     ensures read_faults { ReadCounts result (F.read_faults files.old) (F.read_faults files.new) }
     ensures write_faults { F.write_faults files.new ≡ F.write_faults files.old }
 {
     let mut chunk = [0u8; 4096];
     let mut bytes = Vec::new(alloc);
-    while bytes.len() < ENOUGH {
+    while bytes.len() < most {
         match files.read_at(name, bytes.len() as u64, &mut chunk) {
             Err(Failed) => return Err(SourceFault::Failed),
             Ok(None) => return Ok(None),
@@ -40,6 +43,6 @@ pub fn read_source<F: Files>(
             }
         }
     }
-    bytes.truncate(ENOUGH);
+    bytes.truncate(most);
     Ok(Some(bytes))
 }

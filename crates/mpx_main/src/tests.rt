@@ -14,97 +14,65 @@ const STORES_AND_PUTS: &str = "char a[4];\nint main(void){ a[3]=1; put(a[3]); re
 
 const LEAVES: &str = "char a[4];\nint main(void){ put(7); a[4]=1; put(8); return 0; }";
 
-/// No call has this number.
-const NONE: u64 = u64::MAX;
+/// Commands where the one file `a.c` has a text. The columns are: the words; the text, or LEAVES for the one above; the number of
+/// the call of the files, of `out` and of `err` that fails, the call 0 of the files putting the text there; the room of `err`; and
+/// status, `out` and `err`, in which `/` is a line feed.
+const ROWS: &str = "\
+run a.c|char a[4]; int main(void){ a[3]=1; put(a[3]); return 0; }|-|-|-|100|0 [1] exit 0/
+run a.c|LEAVES|-|-|-|100|10 [7] bounds: 0x20000004 outside [0x20000000, 0x20000003]/
+run a.c|char z[4096];int main(void){return 255;}|-|-|-|100|0 [] exit 255/
+run a.c|char z[1]; int main(void){ put(z[65535]); return 0; }|-|-|-|100|10 [] bounds: 0x2000ffff outside [0x20000000, 0x20000000]/
+run a.c||-|-|-|100|1 [] a.c: Unbuilt/
+run a.c|char a[4]; int main(void){ a[03]=1; return 0; }|-|-|-|100|1 [] a.c: Unbuilt/
+run none.c||-|-|-|100|1 [] none.c: Missing/
+run||-|-|-|100|2 [] words refused/
+run a.c a.c||-|-|-|100|2 [] words refused/
+run a.s||-|-|-|100|2 [] words refused/
+run -a.c||-|-|-|100|2 [] words refused/
+exec a.c||-|-|-|100|2 [] words refused/
+||-|-|-|100|2 [] words refused/
+run a.c|LEAVES|1|-|-|100|3 [] read fault/
+run a.c|LEAVES|2|-|-|100|3 [] read fault/
+run a.c|LEAVES|3|-|-|100|10 [7] bounds: 0x20000004 outside [0x20000000, 0x20000003]/
+run a.c|LEAVES|-|0|-|100|4 [] write fault/
+run a.c|LEAVES|-|1|-|100|10 [7] bounds: 0x20000004 outside [0x20000000, 0x20000003]/
+run a.c|LEAVES|-|-|0|100|4 [7] 
+run a.c|LEAVES|1|-|0|100|4 [] 
+run a.c|LEAVES|-|0|0|100|4 [] 
+run||-|-|-|5|4 [] words";
 
-/// Commands where the one file `a.c` has a text: status, standard output and standard error.
-const COMMANDS: [(&str, &str, u8, &[u8], &str); 13] = [
-    ("run a.c", STORES_AND_PUTS, 0, &[1], "exit 0\n"),
-    (
-        "run a.c",
-        LEAVES,
-        10,
-        &[7],
-        "bounds: 0x20000004 outside [0x20000000, 0x20000003]\n",
-    ),
-    (
-        "run a.c",
-        "char z[4096];int main(void){return 255;}",
-        0,
-        &[],
-        "exit 255\n",
-    ),
-    (
-        "run a.c",
-        "char z[1]; int main(void){ put(z[65535]); return 0; }",
-        10,
-        &[],
-        "bounds: 0x2000ffff outside [0x20000000, 0x20000000]\n",
-    ),
-    ("run a.c", "", 1, &[], "a.c: Unbuilt\n"),
-    (
-        "run a.c",
-        "char a[4];\nint main(void){ a[03]=1; return 0; }",
-        1,
-        &[],
-        "a.c: Unbuilt\n",
-    ),
-    ("run none.c", "", 1, &[], "none.c: Missing\n"),
-    ("run", "", 2, &[], "words refused\n"),
-    ("run a.c a.c", "", 2, &[], "words refused\n"),
-    ("run a.s", "", 2, &[], "words refused\n"),
-    ("run -a.c", "", 2, &[], "words refused\n"),
-    ("exec a.c", "", 2, &[], "words refused\n"),
-    ("", "", 2, &[], "words refused\n"),
-];
-
-/// One failing call each of the files, of `out` and of `err`, by its number, and the room of `err`. The call 0 of the files
-/// puts the text there.
-const FAULTS: [((u64, u64, u64, usize), u8, &[u8], &str); 9] = [
-    ((1, NONE, NONE, 100), 3, &[], "read fault\n"),
-    ((2, NONE, NONE, 100), 3, &[], "read fault\n"),
-    (
-        (3, NONE, NONE, 100),
-        10,
-        &[7],
-        "bounds: 0x20000004 outside [0x20000000, 0x20000003]\n",
-    ),
-    ((NONE, 0, NONE, 100), 4, &[], "write fault\n"),
-    (
-        (NONE, 1, NONE, 100),
-        10,
-        &[7],
-        "bounds: 0x20000004 outside [0x20000000, 0x20000003]\n",
-    ),
-    ((NONE, NONE, 0, 100), 4, &[7], ""),
-    ((1, NONE, 0, 100), 4, &[], ""),
-    ((NONE, 0, 0, 100), 4, &[], ""),
-    ((NONE, NONE, NONE, 5), 4, &[7], "bound"),
-];
-
-#[derive(Drop)]
-struct Outcome {
-    status: u8,
-    out: Vec<u8>,
-    err: Vec<u8>,
+/// The calls that fail, by their numbers, and the room of `err`.
+#[derive(Clone, Copy)]
+struct Faults {
+    files: u64,
+    out: u64,
+    err: u64,
+    room: usize,
 }
 
-/// Runs a command where the one file `a.c` has this text, with these failing calls and this room.
-fn run_line(
-    alloc: Global,
-    line: &str,
-    text: &str,
-    fails: (u64, u64, u64, usize),
-) -> Result<Outcome, Fail> {
+const NONE: Faults = Faults {
+    files: u64::MAX,
+    out: u64::MAX,
+    err: u64::MAX,
+    room: 100,
+};
+
+/// The number of a column; that of no call where none stands.
+fn column(text: &str) -> u64 {
+    text.parse::<u64>().unwrap_or(u64::MAX)
+}
+
+/// What a command gives where the one file `a.c` has this text: the status, `out` and `err`, in which `/` is a line feed.
+fn run_line(alloc: Global, line: &str, text: &str, faults: Faults) -> Result<String, Fail> {
     let mut words = Vec::new(alloc);
     for word in line.split_whitespace() {
         words.push(String::from_str(alloc, word)?)?;
     }
-    let mut files = MemFiles::make(alloc, 2, 70000, &[fails.0])?;
+    let mut files = MemFiles::make(alloc, 2, 70000, &[faults.files])?;
     files.write_all("a.c", text.as_bytes())?;
     let mut input = MemSource::make(alloc, b"", &[])?;
-    let mut out = MemSink::make(alloc, 100, &[fails.1])?;
-    let mut err = MemSink::make(alloc, fails.3, &[fails.2])?;
+    let mut out = MemSink::make(alloc, 100, &[faults.out])?;
+    let mut err = MemSink::make(alloc, faults.room, &[faults.err])?;
     let status = run_words(
         alloc,
         words.as_slice(),
@@ -113,26 +81,32 @@ fn run_line(
         &mut out,
         &mut err,
     );
-    Ok(Outcome {
-        status,
-        out: Vec::from_slice(alloc, out.held())?,
-        err: Vec::from_slice(alloc, err.held())?,
-    })
+    shown(alloc, status, out.held(), err.held())
+}
+
+fn shown(alloc: Global, status: u8, out: &[u8], err: &[u8]) -> Result<String, Fail> {
+    let text = match str::from_utf8(err) {
+        Ok(text) => text.replace(alloc, "\n", "/")?,
+        Err(_) => String::from_str(alloc, "no text")?,
+    };
+    Ok(format!(in alloc; "{status} {out:?} {text}")?)
 }
 
 #[test]
 fn rows(rt: HostRuntime) -> Result<(), Fail> {
-    for (line, text, status, out, err) in COMMANDS {
-        let found = run_line(rt.alloc(), line, text, (NONE, NONE, NONE, 100))?;
-        assert_eq!(rt; found.status, status, "{line} on {text}");
-        assert_eq!(rt; found.out.as_slice(), out);
-        assert_eq!(rt; found.err.as_slice(), err.as_bytes());
-    }
-    for (fails, status, out, err) in FAULTS {
-        let found = run_line(rt.alloc(), "run a.c", LEAVES, fails)?;
-        assert_eq!(rt; found.status, status, "{fails:?}");
-        assert_eq!(rt; found.out.as_slice(), out);
-        assert_eq!(rt; found.err.as_slice(), err.as_bytes());
+    for row in ROWS.lines() {
+        let mut columns = row.split('|');
+        let line = columns.next().unwrap_or("");
+        let text = columns.next().unwrap_or("");
+        let faults = Faults {
+            files: column(columns.next().unwrap_or("")),
+            out: column(columns.next().unwrap_or("")),
+            err: column(columns.next().unwrap_or("")),
+            room: column(columns.next().unwrap_or("")) as usize,
+        };
+        let text = if text == "LEAVES" { LEAVES } else { text };
+        let found = run_line(rt.alloc(), line, text, faults)?;
+        assert_eq!(rt; found.as_str(), columns.next().unwrap_or(""), "{row}");
     }
     Ok(())
 }
@@ -143,27 +117,11 @@ fn length_of_a_file(rt: HostRuntime) -> Result<(), Fail> {
     for _ in text.len()..65536 {
         text.push_str(" ")?;
     }
-    assert_eq!(rt;
-        run_line(
-            rt.alloc(),
-            "run a.c",
-            text.as_str(),
-            (NONE, NONE, NONE, 100)
-        )?
-        .status,
-        0
-    );
+    let fits = run_line(rt.alloc(), "run a.c", text.as_str(), NONE)?;
+    assert_eq!(rt; fits.as_str(), "0 [1] exit 0/");
     text.push_str(" ")?;
-    assert_eq!(rt;
-        run_line(
-            rt.alloc(),
-            "run a.c",
-            text.as_str(),
-            (NONE, NONE, NONE, 100)
-        )?
-        .status,
-        1
-    );
+    let over = run_line(rt.alloc(), "run a.c", text.as_str(), NONE)?;
+    assert_eq!(rt; over.as_str(), "1 [] a.c: Unbuilt/");
     Ok(())
 }
 
@@ -176,7 +134,6 @@ fn runs_the_bytes(rt: HostRuntime) -> Result<(), Fail> {
     let code = lower_early(alloc, &program)?;
     let mut out = MemSink::make(alloc, 100, &[])?;
     let stop = run_early(alloc, code.as_slice(), program.size, &mut out)?;
-    let found = run_line(alloc, "run a.c", LEAVES, (NONE, NONE, NONE, 100))?;
     assert_eq!(rt;
         stop,
         EarlyStop::Bounds {
@@ -185,8 +142,7 @@ fn runs_the_bytes(rt: HostRuntime) -> Result<(), Fail> {
             ub: 0x20000003
         }
     );
-    assert_eq!(rt; found.status, 10);
-    assert_eq!(rt; out.held(), found.out.as_slice());
+    assert_eq!(rt; out.held(), b"\x07".as_slice());
     Ok(())
 }
 

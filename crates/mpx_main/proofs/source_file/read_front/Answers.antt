@@ -3,12 +3,12 @@ use Rattle.std.proofs.lemmas.Grind.{common_steps}
 use Rattle.std.proofs.lemmas.List.{length-take-le, length-append}
 use Rattle.mpx_main.specs.Sources.{IsReadFrom}
 use Rattle.mpx_main.proofs.Fronts.{front_ended, front_more, front_cut, chunk_fits}
-use Rattle.mpx_main.proofs.source_file.read_source.Goals as goal
+use Rattle.mpx_main.proofs.source_file.read_front.Goals as goal
 
 pub returns-in-Ok-Some-eq0-clause-bytes : goal.returns-in-Ok-Some-eq0-clause-bytes
 returns-in-Ok-Some-eq0-clause-bytes g c =
     let at : c.len-in-loop-chunk.result ≡ length c.loop-chunk.bytes.items = omega (arith, c.loop-chunk.bytes.ok) in
-    front_ended _ _ _ _ _ _ _ (c.loop-chunk.invariant.contents c.args.name.now) c.in-Ok-Some-eq0.field-0-is c.in-Ok-Some-eq0.field-0-0-test c.in-Ok-Some-eq0.ensures.answer c.loop-chunk.invariant.front at (omega arith) (omega arith)
+    front_ended c.args.most _ _ _ _ _ _ _ (c.loop-chunk.invariant.contents c.args.name.now) c.in-Ok-Some-eq0.field-0-is c.in-Ok-Some-eq0.field-0-0-test c.in-Ok-Some-eq0.ensures.answer c.loop-chunk.invariant.front at (omega arith) (omega arith)
 
 pub loop-chunk-preserved : goal.loop-chunk-preserved
 loop-chunk-preserved g c =
@@ -26,4 +26,4 @@ loop-chunk-preserved g c =
 
 pub returns-clause-bytes : goal.returns-clause-bytes
 returns-clause-bytes g c =
-    rw c.truncate.ensures.items (front_cut _ _ c.loop-chunk.invariant.front (omega (arith, c.loop-chunk.bytes.ok)))
+    rw c.truncate.ensures.items (front_cut c.args.most _ _ (omega arith) c.loop-chunk.invariant.front (omega (arith, c.loop-chunk.bytes.ok)))
