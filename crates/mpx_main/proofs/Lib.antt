@@ -1,5 +1,7 @@
 pub mod Fronts
 pub mod Hex
+pub mod ExecCauses
+pub mod Images
 pub mod Names
 pub mod OptionWords
 pub mod Programs

@@ -1,6 +1,7 @@
 -- The words before the file, one by one, are the words of options.
 use Rattle.std.proofs.Common.{◌≡◌, ℕ, ◌^◌, ◌<◌, ◌≤◌, Bool, true, false, IsTrue, cond, map, Option, None, Some, Ok, Err, List, [], ◌∷◌, ◌++◌, length, refl, sym, ap, ◌∙◌, subst, arith}
-use Rattle.std.specs.Prelude.{Result, fold, codes, nat_lt, ◌&&◌}
+use Rattle.std.specs.Prelude.{Result, fold, codes, nat_lt, nat_le, ◌&&◌}
+use Rattle.std.specs.Option.{unwrap_or}
 use Rattle.std.specs.Result.{result_ok}
 use Rattle.std.specs.Str.{bytes_eq, all_ascii_digits}
 use Rattle.std.specs.Str.Parse.{ParsesUnsigned, IsNumeral, digits_value, without_leading_plus}
@@ -14,7 +15,7 @@ use Rattle.mpx_main.specs.declared.options.Seen.{Seen}
 use Rattle.mpx_main.specs.declared.options.Seen.TheVariants.{Options, AwaitsTurns, AwaitsFrames, Refused}
 use Rattle.mpx_main.specs.declared.options.TheConstants.{NOTHING}
 use Rattle.mpx_main.specs.Words.{is_file_word}
-use Rattle.mpx_main.specs.Options.{Choice, Turns, Frames, Preserve, Bare, spelled, all_spelled, is_number, number_of, pick, picks, and_then, settings_of, IsExec, fine, seen_after}
+use Rattle.mpx_main.specs.Options.{Choice, Turns, Frames, Preserve, Bare, spelled, all_spelled, is_number, number_of, turns_picked, frames_picked, pick, picks, and_then, settings_of, IsExec, fine, seen_after}
 
 -- ---- numbers
 
@@ -216,3 +217,65 @@ exec_short (name ∷ word ∷ words) settings f le h = absurd (omega arith)
 -- the words of a list by its first, its last and those between
 pub outer_words : {X : Type 0} (f : X → List ℕ) (words rest between : List X) (first last : X) → words ≡ first ∷ rest → rest ≡ between ++ (last ∷ []) → map f words ≡ f first ∷ (map f between ++ (f last ∷ []))
 outer_words {X} f words rest between first last e h = ap (map f) (e ∙ ap (λ (t : List X). first ∷ t) h) ∙ ap (λ (t : List (List ℕ)). f first ∷ t) (map-append f between (last ∷ []))
+
+-- ---- how many frames there may be
+
+abbrev frames_in : Option ℕ → Type 0
+frames_in None = Unit {0}
+frames_in (Some n) = n ≤ 524288
+
+at_most : (n : ℕ) → nat_le n 524288 ≡ true → n ≤ 524288
+at_most n e = grind (arith, nat_tests, e)
+
+second_true : (a b : Bool) → (a && b) ≡ true → b ≡ true
+second_true true b e = e
+second_true false b e = absurd (cc)
+
+turns_keep : (before number : Option ℕ) (p q : Picked) → frames_in p.frames → turns_picked before number p ≡ Some q → frames_in q.frames
+turns_keep None (Some n) p q h e = let same : record p { turns = Some n } ≡ q = cc in subst (λ (x : Picked). frames_in x.frames) same h
+turns_keep None None p q h e = absurd (cc)
+turns_keep (Some m) number p q h e = absurd (cc)
+
+frames_tested : (b : Bool) (n : ℕ) (p q : Picked) → (b ≡ true → n ≤ 524288) → cond b (Some (record p { frames = Some n })) None ≡ Some q → frames_in q.frames
+frames_tested true n p q few e = let same : record p { frames = Some n } ≡ q = cc in subst (λ (x : Picked). frames_in x.frames) same (few refl)
+frames_tested false n p q few e = absurd (cc)
+
+frames_keep : (before number : Option ℕ) (p q : Picked) → frames_picked before number p ≡ Some q → frames_in q.frames
+frames_keep None (Some n) p q e = frames_tested _ n p q (λ t. at_most n (second_true (nat_le 16 n) (nat_le n 524288) t)) e
+frames_keep None None p q e = absurd (cc)
+frames_keep (Some m) number p q e = absurd (cc)
+
+flag_keeps : (b : Bool) (r q : Picked) → frames_in r.frames → cond b None (Some r) ≡ Some q → frames_in q.frames
+flag_keeps true r q h e = absurd (cc)
+flag_keeps false r q h e = let same : r ≡ q = cc in subst (λ (x : Picked). frames_in x.frames) same h
+
+pick_keeps : (c : Choice) (p q : Picked) → frames_in p.frames → pick c p ≡ Some q → frames_in q.frames
+pick_keeps (Turns word) p q h e = turns_keep p.turns (number_of word) p q h e
+pick_keeps (Frames word) p q h e = frames_keep p.frames (number_of word) p q e
+pick_keeps Preserve p q h e = flag_keeps p.preserve (record p { preserve = true }) q h e
+pick_keeps Bare p q h e = flag_keeps p.bare (record p { bare = true }) q h e
+
+then_keeps : (o : Option Picked) (cs : List Choice) (q : Picked) → ((r : Picked) → o ≡ Some r → frames_in r.frames) → ((r : Picked) → frames_in r.frames → picks cs r ≡ Some q → frames_in q.frames) → and_then o (picks cs) ≡ Some q → frames_in q.frames
+then_keeps None cs q first more e = absurd (cc)
+then_keeps (Some r) cs q first more e = more r (first r refl) e
+
+picks_keep : (cs : List Choice) (p q : Picked) → frames_in p.frames → picks cs p ≡ Some q → frames_in q.frames
+picks_keep [] p q h e = let same : p ≡ q = cc in subst (λ (x : Picked). frames_in x.frames) same h
+picks_keep (c ∷ cs) p q h e = then_keeps (pick c p) cs q (λ r. pick_keeps c p r h) (λ r. picks_keep cs r q) e
+
+few_in : (o : Option ℕ) → frames_in o → unwrap_or o 65536 ≤ 524288
+few_in None h = omega arith
+few_in (Some n) h = h
+
+pub exec_few : (words : List (List ℕ)) (settings : Settings) (f : List ℕ) → IsExec words settings f → settings.frames ≤ 524288
+exec_few words settings f h = subst (λ (s : Settings). s.frames ≤ 524288) (sym h.same) (few_in h.picked.frames (picks_keep h.choices NOTHING h.picked tt h.sets))
+
+-- words mean one command at most
+pub exec_only : (words : List (List ℕ)) (s t : Settings) (f g : List ℕ) → IsExec words s f → IsExec words t g → (s ≡ t) × (f ≡ g)
+exec_only words s t f g h k =
+    let both : codes "exec" ∷ (all_spelled h.choices ++ (f ∷ [])) ≡ codes "exec" ∷ (all_spelled k.choices ++ (g ∷ [])) = sym h.spells ∙ k.spells in
+    let tails : all_spelled h.choices ++ (f ∷ []) ≡ all_spelled k.choices ++ (g ∷ []) = cc in
+    let same = snoc_same (all_spelled h.choices) (all_spelled k.choices) f g tails in
+    let one : Options h.picked ≡ Options k.picked = sym (complete h.choices NOTHING h.picked h.sets) ∙ (ap (fold seen_after (Options NOTHING)) same.0 ∙ complete k.choices NOTHING k.picked k.sets) in
+    let picked : h.picked ≡ k.picked = cc in
+    (h.same ∙ (ap settings_of picked ∙ sym k.same), same.1)

@@ -1,17 +1,18 @@
 -- From what was read of a file to what is due for it.
-use Rattle.std.proofs.Common.{◌≡◌, ℕ, ◌≤◌, Option, Some, Ok, List, length, take, ap, sym, subst, ◌∙◌, refl, arith}
+use Rattle.std.proofs.Common.{◌≡◌, ℕ, ◌≤◌, Option, None, Some, Ok, List, length, take, ap, sym, subst, ◌∙◌, refl, arith}
 use Rattle.std.proofs.lemmas.List.{take_all, length-take}
 use Rattle.c_reader.specs.EarlyForm.{IsEarly}
 use Rattle.c_reader.specs.EarlyMeaning.{early_run}
 use Rattle.c_reader.specs.declared.early.Act.{Act}
 use Rattle.mx_base.specs.Outside.{FileFacts, Untold, Absent, Holds, Adds}
 use Rattle.mpx_main.specs.declared.end.End.{End}
-use Rattle.mpx_main.specs.declared.end.End.TheVariants.{Unbuilt}
-use Rattle.mpx_main.specs.Due.{Due, run_due, IsDueForText, IsProgram, IsNoProgram, IsDueForFile, Works}
+use Rattle.mpx_main.specs.declared.end.End.TheVariants.{Unbuilt, WordsRefused}
+use Rattle.mpx_main.specs.Due.{Due, run_due, IsDueForText, IsProgram, IsNoProgram, IsDueForFile, IsDue, Works}
 use Rattle.std.specs.declared.vec.Vec.{Vec}
 use Rattle.std.specs.Global.{Global}
 use Rattle.mpx_main.specs.Sources.{IsFrontOf, ReadsFront}
 use Rattle.mpx_main.specs.declared.source_file.TheConstants.{ENOUGH}
+use Rattle.mpx_main.specs.Words.{Command}
 use Rattle.mpx_main.proofs.Puts.{adds_nothing}
 
 -- a text that spells no program is refused, and nothing is put
@@ -49,3 +50,8 @@ pub file_read : (facts : FileFacts) (o : Option (Vec ℕ Global)) (v : Vec ℕ G
 file_read facts o v bytes due same is h d =
     let front : IsFrontOf ENOUGH facts v.items = subst (λ (p : Option (Vec ℕ Global)). ReadsFront ENOUGH facts (Ok p)) is h in
     subst (λ (xs : List ℕ). IsDueForText xs due) (sym same) (file_text facts v.items due front d)
+
+-- words that are no command are refused
+pub refused_words : (o : Option Command) (files : List ℕ → FileFacts) (held : Option (List ℕ)) → o ≡ None → (due : Due) → IsDue o files due → Works due WordsRefused held held
+refused_words None files held e due d = subst (λ (x : Due). Works x WordsRefused held held) (sym d) (refl, adds_nothing held)
+refused_words (Some command) files held e due d = absurd (cc)

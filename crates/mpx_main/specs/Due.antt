@@ -6,7 +6,6 @@ use Rattle.c_reader.specs.declared.early.Act.{Act}
 use Rattle.mx_base.specs.Outside.{FileFacts, Untold, Absent, Holds, Adds, AddsFront, HasRisen}
 use Rattle.mpx_main.specs.declared.end.End.{End}
 use Rattle.mpx_main.specs.declared.end.End.TheVariants.{Exit, Bounds, Missing, Unbuilt, WordsRefused, ReadFault, WriteFault, NoMemory}
-use Rattle.mpx_main.specs.Ends.{status_of}
 use Rattle.mpx_main.specs.Words.{Command, Run}
 
 pub record Due : Type 0 where
@@ -66,6 +65,6 @@ TextFaults WriteFault outs outs' = HasRisen outs outs'
 TextFaults end outs outs' = outs' ≡ outs
 
 -- the last line is put on standard error, or standard error fails after a front of it, which is status 4
-pub data Reports (line : List ℕ) (end : End) (status : ℕ) (old new : Option (List ℕ)) (faults faults' : ℕ) : Type 0 where
-  Put : status ≡ status_of end → Adds old new line → faults' ≡ faults → Reports line end status old new faults faults'
-  Failed : status ≡ 4 → AddsFront old new line → HasRisen faults faults' → Reports line end status old new faults faults'
+pub data Reports (line : List ℕ) (due : ℕ) (status : ℕ) (old new : Option (List ℕ)) (faults faults' : ℕ) : Type 0 where
+  Put : status ≡ due → Adds old new line → faults' ≡ faults → Reports line due status old new faults faults'
+  Failed : status ≡ 4 → AddsFront old new line → HasRisen faults faults' → Reports line due status old new faults faults'

@@ -1,5 +1,6 @@
 pub mod Due
 pub mod Ends
+pub mod Exec
 pub mod Options
 pub mod Sinks
 pub mod Sources

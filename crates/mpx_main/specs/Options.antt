@@ -76,6 +76,10 @@ pub record IsExec (words : List (List ℕ)) (settings : Settings) (file : List �
   pub same : settings ≡ settings_of picked
   pub named : IsTrue (is_file_word file)
 
+-- words that are not so
+abbrev pub IsNoExec : List (List ℕ) → Type 0
+IsNoExec words = (settings : Settings) (file : List ℕ) → IsExec words settings file → ⊥
+
 -- ---- word by word
 
 abbrev pub fine : Option Picked → Seen

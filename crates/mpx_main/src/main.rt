@@ -5,6 +5,9 @@ ghost use Rattle.std.specs.Prelude.{◌≡◌, IsTrue, IfErr};
 ghost use Rattle.mpx_main.specs.Ends.{refusal_of, ends_words};
 
 mod end;
+mod exec;
+#[cfg(test)]
+mod exec_tests;
 mod line;
 mod options;
 mod real;

@@ -1,6 +1,6 @@
 //! The words of `exec`: options, each at most once, and then a file.
 ghost use Rattle.std.specs.Prelude.{◌≡◌, ◌≤◌, List, ℕ, map, fold, string_bytes, length, MatchOption, ◌∷◌, ◌++◌, []};
-ghost use Rattle.mpx_main.specs.Options.{Choice, Turns, Frames, Preserve, Bare, number_of, pick, fine, seen_after, seen_first, settings_of, IsExec};
+ghost use Rattle.mpx_main.specs.Options.{Choice, Turns, Frames, Preserve, Bare, number_of, pick, fine, seen_after, seen_first, settings_of, IsExec, IsNoExec};
 
 use crate::word::is_file;
 
@@ -192,8 +192,9 @@ fn ends(words: &[String]) -> Option<Outer<'_>>
 
 /// The settings and the file of the command `exec`, if the words are one.
 pub fn exec_words(words: &[String]) -> Option<(Settings, &str)>
-    ensures means { MatchOption result ((settings : Settings) (file : List ℕ) → IsExec (map string_bytes words.now) settings file → ⊥) (λ r. IsExec (map string_bytes words.now) r.0 r.1.now) }
+    ensures means { MatchOption result (IsNoExec (map string_bytes words.now)) (λ r. IsExec (map string_bytes words.now) r.0 r.1.now) }
     ensures short { MatchOption result (Unit {0}) (λ r. length r.1.now ≤ 255) }
+    ensures few { MatchOption result (Unit {0}) (λ r. r.0.frames ≤ 524288) }
 {
     let outer = ends(words)?;
     if outer.first != "exec" || !is_file(outer.last) {

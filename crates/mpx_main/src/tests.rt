@@ -29,7 +29,7 @@ run||-|-|-|100|2 [] words refused/
 run a.c a.c||-|-|-|100|2 [] words refused/
 run a.s||-|-|-|100|2 [] words refused/
 run -a.c||-|-|-|100|2 [] words refused/
-exec a.c||-|-|-|100|2 [] words refused/
+exec a.c||-|-|-|100|1 [] a.c: BadForm at 0/
 ||-|-|-|100|2 [] words refused/
 run a.c|LEAVES|1|-|-|100|3 [] read fault/
 run a.c|LEAVES|2|-|-|100|3 [] read fault/
