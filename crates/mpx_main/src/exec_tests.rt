@@ -29,7 +29,6 @@ const ROWS: &str = "\
 exec --turns 0 three|-|-|0 7/ exit 3/
 exec --turns 5 loop|-|-|12  out of turns/
 exec --turns +5 --frames 16 --preserve --bare loop|-|-|12  out of turns/
-exec loop|-|-|12  out of turns/
 exec ud2|-|-|11  undefined: 0x1000000/
 exec --bare table|-|-|0 87960930222081/536870912/-536870916/536870912/ exit 0/
 exec table|-|-|13  strayed: 0x400000001800/
