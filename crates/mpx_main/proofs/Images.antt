@@ -1,5 +1,5 @@
 -- What `exec` reads, and what its run leaves.
-use Rattle.std.proofs.Common.{◌≡◌, ℕ, Bool, ◌<◌, ◌≤◌, Option, None, Some, Ok, Err, List, [], length, take, refl, sym, ap, ◌∙◌, subst, inl, inr, arith}
+use Rattle.std.proofs.Common.{◌≡◌, ℕ, ◌<◌, ◌≤◌, Option, None, Some, Ok, Err, List, [], length, take, sym, ap, ◌∙◌, subst, inr, arith}
 use Rattle.std.specs.Prelude.{Result}
 use Rattle.std.proofs.lemmas.List.{take_all, length-take}
 use Rattle.mx_base.specs.declared.stops.Stop.{Stop}
@@ -8,21 +8,17 @@ use Rattle.mx_base.specs.Outside.{FileFacts, Untold, Absent, Holds, Adds, AddsFr
 use Rattle.obj_file.specs.declared.image.Image.{Image}
 use Rattle.obj_file.specs.Machine.{State}
 use Rattle.obj_file.specs.Runs as runs
-use Rattle.obj_file.specs.Loaded.{Tabled, image_run, configuration, state_at_start}
-use Rattle.paged_memory.specs.Paged.{Paged}
-use Rattle.mx_run.specs.declared.config.Config.{Config}
+use Rattle.obj_file.specs.Loaded.{Tabled, image_run}
 use Rattle.mx_run.specs.declared.machine.Machine.{Machine}
-use Rattle.mx_run.specs.Events.{Around, IsNow, IsCut, Ends, out_of, FindsFew}
+use Rattle.mx_run.specs.Events.{Around, IsNow, IsCut, Ends, out_of, FindsFew, GivesUp}
 use Rattle.mx_run.specs.Machines.{ground_of, machine_state, IsAtStart}
 use Rattle.mx_run.specs.declared.parts.Parts.{Parts}
 use Rattle.mx_run.specs.Parts.{ground}
-use Rattle.mx_run.specs.Placing.{used_before}
 use Rattle.mpx_main.specs.declared.end.End.{End}
 use Rattle.mpx_main.specs.declared.end.End.TheVariants as end
 use Rattle.mpx_main.specs.declared.options.Settings.{Settings}
 use Rattle.mpx_main.specs.Sources.{IsFrontOf}
-use Rattle.mpx_main.specs.Exec.{file_limit, WhereTold, IsLarge, IsSpelling, SpellsNone, IsRefused, Loads, Reads, due_run, Leaves, Comes, HasFewFrames, RunsImage}
-use Rattle.mpx_main.proofs.Puts.{adds_nothing}
+use Rattle.mpx_main.specs.Exec.{config_of, file_limit, WhereTold, IsLarge, IsSpelling, SpellsNone, IsRefused, Loads, Reads, due_run, Leaves, Comes, HasFewFrames, RunsImage}
 
 -- ---- the file
 
@@ -64,13 +60,9 @@ loaded facts front (Err why) f h = refused facts front why f h
 -- ---- the run
 
 -- the run of a machine that stands at an image's start is the run of the image
-same_run : (v : Image) (s : Settings) (config : Config) (m : Machine) (input : List ℕ) → config.preserve ≡ s.preserve → config.bare ≡ s.bare → IsAtStart v config m → runs.run_of (ground_of m) s.turns (machine_state m input []) ≡ due_run s v input
+same_run : (v : Image) (s : Settings) (m : Machine) (input : List ℕ) → IsAtStart v (config_of s) m → runs.run_of (ground_of m) s.turns (machine_state m input []) ≡ due_run s v input
 unfolding image_run
-same_run v s config m input p b start =
-    let cfg : m.parts.bnd.cfg ≡ configuration s.preserve = start.cfg ∙ ap configuration p in
-    let bare : m.doors.bare ≡ s.bare = start.bare ∙ b in
-    let state : machine_state m input [] ≡ state_at_start v.segments s.preserve input = start.state input ∙ ap (λ (x : Bool). state_at_start v.segments x input) p in
-    λ i. runs.run_of (ground (cfg i) (start.outers i) (bare i)) s.turns (state i)
+same_run v s m input start = λ i. runs.run_of (ground (start.cfg i) (start.outers i) (start.bare i)) s.turns (start.state input i)
 
 leaves : (held : Option (List ℕ)) (new : Around) (t : State Tabled) → IsNow held [] new t → Leaves t held new.held new.left
 leaves held new t n = record {
@@ -95,34 +87,27 @@ comes e held new (stop.NoFrames in_use capacity) h = cut held new.held (out_of e
 comes e held new stop.ReadFault h = cut held new.held (out_of e) h
 comes e held new stop.WriteFault h = cut held new.held (out_of e) h
 
-few_frames : (s : Settings) (v : Image) (m : Paged) (why : Stop) → FindsFew m (Some why) → HasFewFrames s v why
-few_frames s v m (stop.NoFrames in_use capacity) h = inr (m, h)
-few_frames s v m (stop.Exit code) h = tt
-few_frames s v m (stop.Bounds breach) h = tt
-few_frames s v m (stop.Unmapped a) h = tt
-few_frames s v m stop.Divide h = tt
-few_frames s v m (stop.Undefined a) h = tt
-few_frames s v m stop.StackOver h = tt
-few_frames s v m stop.OutOfTurns h = tt
-few_frames s v m (stop.Strayed a) h = tt
-few_frames s v m stop.NoTable h = tt
-few_frames s v m stop.ReadFault h = tt
-few_frames s v m stop.WriteFault h = tt
+few_frames : (s : Settings) (v : Image) (m : Machine) (left held : Option (List ℕ)) (why : Stop) → IsAtStart v (config_of s) m → FindsFew (GivesUp (ground_of m) s.turns left held m.parts) (Some why) → HasFewFrames s v left held why
+few_frames s v m left held (stop.NoFrames in_use capacity) start h = inr (record { machine = m; start = start; gives_up = h })
+few_frames s v m left held (stop.Exit code) start h = tt
+few_frames s v m left held (stop.Bounds breach) start h = tt
+few_frames s v m left held (stop.Unmapped a) start h = tt
+few_frames s v m left held stop.Divide start h = tt
+few_frames s v m left held (stop.Undefined a) start h = tt
+few_frames s v m left held stop.StackOver start h = tt
+few_frames s v m left held stop.OutOfTurns start h = tt
+few_frames s v m left held (stop.Strayed a) start h = tt
+few_frames s v m left held stop.NoTable start h = tt
+few_frames s v m left held stop.ReadFault start h = tt
+few_frames s v m left held stop.WriteFault start h = tt
 
 -- the run of a machine at an image's start, as a run of the image
-pub ran : (v : Image) (s : Settings) (config : Config) (m : Machine) → config.preserve ≡ s.preserve → config.bare ≡ s.bare → IsAtStart v config m
+pub ran : (v : Image) (s : Settings) (m : Machine) → IsAtStart v (config_of s) m
     → (parts : Parts) (why : Stop) (held held' left left' : Option (List ℕ))
     → (m.kept ≡ None → (bytes so_far : List ℕ) → left ≡ Some bytes → Ends (runs.run_of (ground_of m) s.turns (machine_state m bytes so_far)) held so_far (record { parts = parts; left = left'; held = held' }) why)
-    → (m.kept ≡ None → FindsFew parts.memory (Some why)) → RunsImage s v left (Ok why) held held' left'
-ran v s config m p b start parts why held held' left left' ends few = (
-  few_frames s v parts.memory why (few start.kept),
+    → (m.kept ≡ None → FindsFew (GivesUp (ground_of m) s.turns left held m.parts) (Some why)) → RunsImage s v left (Ok why) held held' left'
+ran v s m start parts why held held' left left' ends few = (
+  few_frames s v m left held why start (few start.kept),
   λ input e. comes (due_run s v input) held (record { parts = parts; left = left'; held = held' }) why
-      (subst (λ (r : runs.End Tabled). Ends r held [] (record { parts = parts; left = left'; held = held' }) why) (same_run v s config m input p b start) (ends start.kept input [] e)),
-)
-
--- an image whose segments have too few frames is not run
-pub unplaced : (v : Image) (s : Settings) (in_use capacity : ℕ) (frames : ℕ) → frames ≡ s.frames → used_before frames [] v.segments ≡ Some in_use → capacity ≡ frames → (held left : Option (List ℕ)) → RunsImage s v left (Ok (stop.NoFrames in_use capacity)) held held left
-unplaced v s in_use capacity frames f used c held left = (
-  inl (subst (λ (n : ℕ). used_before n [] v.segments ≡ Some in_use) f used, c ∙ f),
-  λ input e. record { front = []; rest = out_of (due_run s v input); splits = refl; adds = adds_nothing held },
+      (subst (λ (r : runs.End Tabled). Ends r held [] (record { parts = parts; left = left'; held = held' }) why) (same_run v s m input start) (ends start.kept input [] e)),
 )

@@ -9,9 +9,10 @@ use Rattle.obj_file.specs.Image.{IsImage, image_spelling}
 use Rattle.obj_file.specs.Machine.{State}
 use Rattle.obj_file.specs.Runs as runs
 use Rattle.obj_file.specs.Loaded.{Tabled, Mode, image_run}
-use Rattle.paged_memory.specs.Paged.{Paged}
-use Rattle.mx_run.specs.Events.{out_of, CountsReads, CountsWrites}
-use Rattle.mx_run.specs.Parts.{LacksFrames}
+use Rattle.mx_run.specs.declared.config.Config.{Config}
+use Rattle.mx_run.specs.declared.machine.Machine.{Machine}
+use Rattle.mx_run.specs.Events.{out_of, CountsReads, CountsWrites, GivesUp}
+use Rattle.mx_run.specs.Machines.{ground_of, IsAtStart}
 use Rattle.mx_run.specs.Placing.{used_before}
 use Rattle.mx_run.specs.Reads.{reader}
 use Rattle.mpx_main.specs.declared.end.End.{End}
@@ -110,14 +111,24 @@ Comes e stop.ReadFault held held' left' = AddsFront held held' (out_of e)
 Comes e stop.WriteFault held held' left' = AddsFront held held' (out_of e)
 Comes e why held held' left' = (t : State Tabled) × (e ≡ runs.Stopped why t) × Leaves t held held' left'
 
--- too few frames: for the segments of the image, or for a write of the run, with these numbers
-abbrev pub HasFewFrames : Settings → Image → Stop → Type 0
-HasFewFrames s v (stop.NoFrames in_use capacity) = ((used_before s.frames [] v.segments ≡ Some in_use) × (capacity ≡ s.frames)) ⊎ ((m : Paged) × LacksFrames m in_use capacity)
-HasFewFrames s v why = Unit {0}
+-- how a machine is made for these settings
+abbrev pub config_of : Settings → Config
+config_of s = record { frames = s.frames; preserve = s.preserve; bare = s.bare }
+
+-- a machine at the start of an image came to a write that found too few free frames, with these numbers
+pub record StopsShort (s : Settings) (v : Image) (left held : Option (List ℕ)) (in_use capacity : ℕ) : Type 0 where
+  pub machine : Machine
+  pub start : IsAtStart v (config_of s) machine
+  pub gives_up : GivesUp (ground_of machine) s.turns left held machine.parts in_use capacity
+
+-- too few frames: for the segments of the image, or for a write of its run
+abbrev pub HasFewFrames : Settings → Image → Option (List ℕ) → Option (List ℕ) → Stop → Type 0
+HasFewFrames s v left held (stop.NoFrames in_use capacity) = ((used_before s.frames [] v.segments ≡ Some in_use) × (capacity ≡ s.frames)) ⊎ StopsShort s v left held in_use capacity
+HasFewFrames s v left held why = Unit {0}
 
 -- the run of an image, or want of memory before it
 abbrev pub RunsImage : Settings → Image → Option (List ℕ) → Result Stop OutOfMemory → Option (List ℕ) → Option (List ℕ) → Option (List ℕ) → Type 0
-RunsImage s v left (Ok why) held held' left' = HasFewFrames s v why × ((input : List ℕ) → left ≡ Some input → Comes (due_run s v input) why held held' left')
+RunsImage s v left (Ok why) held held' left' = HasFewFrames s v left held why × ((input : List ℕ) → left ≡ Some input → Comes (due_run s v input) why held held' left')
 RunsImage s v left (Err lack) held held' left' = Adds held held' [] × (left' ≡ left)
 
 -- the counts of the source and of the sink rise exactly where their fault ends the run
