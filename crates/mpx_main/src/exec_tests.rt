@@ -1,5 +1,4 @@
 //! `exec` on images made by hand.
-ghost use Rattle.std.specs.Prelude.{◌≡◌};
 ghost use Rattle.mx_base.specs.Outside.{Untold};
 
 use crate::run::run_words;
@@ -54,7 +53,7 @@ exec three three|-|-|2  words refused/";
 
 /// Four bytes of a number, the low one first.
 fn push_number(bytes: &mut Vec<u8>, number: usize) -> Result<(), Fail> {
-    bytes.extend_from_slice(&(number as u32).to_le_bytes())?;
+    bytes.extend_from_slice(&number.to_le_bytes()[..4])?;
     Ok(())
 }
 
