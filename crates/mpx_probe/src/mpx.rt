@@ -22,6 +22,7 @@ const STATE: usize = NUMBERS * 8 + 3 * WINDOW;
 
 /// Two configurations: bounds are on, and a near branch without the prefix keeps them or not.
 const RESETS: u64 = 0x4000_0000_0001;
+
 const PRESERVES: u64 = 0x4000_0000_0003;
 
 /// A state, and what the instruction at the front of the line's code led to from there: `STATE RESULT`, or why nothing was
