@@ -63,13 +63,13 @@ pub record Judged (w : World) (log : Log) (u : World) (after : Log) : Type 0 whe
   pub within : AllWithin more
   pub allowed : NoneRefused (accesses_of more)
 
--- none of the accesses is the writing of a pointer to the granule g
+-- none of the accesses is a write of 8 bytes, as every writing of a pointer is, that begins in the granule g
 abbrev pub NotKept : ℕ → List Access → Type 0
 NotKept g [] = Unit {0}
 NotKept g (a ∷ rest) = (a.write ≡ true → a.size ≡ 8 → g ≢ granule a.at) × NotKept g rest
 
 -- and memory and the bounds that are kept changed by them alone: every byte that none of them wrote is as before, and so is what is kept
--- for every granule to which none of them wrote a pointer
+-- for every granule in which no write of 8 bytes begins
 pub record OnlyWrites (w : World) (log : Log) (u : World) (after : Log) : Type 0 where
   pub judged : Judged w log u after
   pub bytes : (x : ℕ) → NotWritten x (accesses_of judged.more) → u.bytes x ≡ w.bytes x

@@ -40,7 +40,7 @@ pub fn accesses_stay_within_bounds()
 
 /// Memory and the bounds that are kept for it change by the writes of C alone. Where code outside of the program changes them
 /// too, a run goes in pieces, each of which is an event of that code or a piece of C between such events, in which every byte
-/// that no access wrote is as before, and so is what is kept for every 8 bytes to which no pointer was written. What is
+/// that no access wrote is as before, and so is what is kept for every 8 bytes in which no write of 8 bytes begins. What is
 /// outside goes in such pieces too, as long as the C functions that it calls do.
 pub fn memory_changes_by_writes()
     ensures alone { (program : ℕ → Linked) → CopiesWhole program → (outside : CalleeOfC → CalleeOfC) → LeftOutside OnlyWrites outside → (depth : ℕ) → LeftByCalls OnlyWrites (calls program outside depth) }
