@@ -10,8 +10,6 @@ mod numbers;
 mod piece;
 mod places;
 mod quotes;
-#[cfg(test)]
-mod tests;
 mod token;
 mod words;
 

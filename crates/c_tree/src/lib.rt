@@ -5,8 +5,6 @@
 mod count;
 mod laws;
 mod names;
-#[cfg(test)]
-mod tests;
 mod tree;
 
 pub use count::nodes;

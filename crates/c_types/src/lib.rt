@@ -5,8 +5,6 @@ mod laws;
 mod layout;
 mod shape;
 mod table;
-#[cfg(test)]
-mod tests;
 
 pub use laws::{members_stand_in_order, multiples_are_the_next, sizes_are_multiples};
 pub use layout::Layout;

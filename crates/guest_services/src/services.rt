@@ -101,6 +101,3 @@ pub fn call<I: Source, O: Sink>(
         _ => Served::Value(u64::MAX - 37),
     }
 }
-
-#[cfg(test)]
-mod tests;

@@ -82,32 +82,3 @@ impl Sink for MemSink {
         self.faults
     }
 }
-
-#[cfg(test)]
-mod tests {
-    use super::*;
-    use std::test::Fail;
-
-    fn faults_of<O: Sink>(sink: &O) -> u64 {
-        sink.faults()
-    }
-
-    #[test]
-    fn takes_what_fits_and_fails_where_told(rt: HostRuntime) -> Result<(), Fail> {
-        let mut sink = MemSink::make(rt.alloc(), 4, &[1])?;
-        let table = [
-            ("ab", Ok(2), "ab", 0),
-            ("c", Err(Failed), "ab", 1),
-            ("", Ok(0), "ab", 1),
-            ("cde", Ok(2), "abcd", 1),
-            ("e", Err(Failed), "abcd", 2),
-            ("", Ok(0), "abcd", 2),
-        ];
-        for (piece, want, held, faults) in table {
-            assert_eq!(rt; sink.put(piece.as_bytes()), want, "{piece}");
-            assert_eq!(rt; sink.held(), held.as_bytes(), "{piece}");
-            assert_eq!(rt; faults_of(&sink), faults, "{piece}");
-        }
-        Ok(())
-    }
-}

@@ -71,36 +71,3 @@ impl Source for MemSource {
         self.faults
     }
 }
-
-#[cfg(test)]
-mod tests {
-    use super::*;
-    use std::test::Fail;
-
-    fn faults_of<I: Source>(source: &I) -> u64 {
-        source.faults()
-    }
-
-    #[test]
-    fn takes_in_order_and_fails_where_told(rt: HostRuntime) -> Result<(), Fail> {
-        let mut source = MemSource::make(rt.alloc(), &[1, 2, 3, 4, 5], &[1, 4, 9])?;
-        let mut buf = [0u8; 3];
-        let table = [
-            (2, Ok(2), [1, 2, 0], 0),
-            (3, Err(Failed), [1, 2, 0], 1),
-            (0, Ok(0), [1, 2, 0], 1),
-            (1, Ok(1), [3, 2, 0], 1),
-            (3, Err(Failed), [3, 2, 0], 2),
-            (3, Ok(2), [4, 5, 0], 2),
-            (3, Ok(0), [4, 5, 0], 2),
-        ];
-        for (size, want, left, faults) in table {
-            assert!(rt; size <= buf.len());
-            let got = source.take(&mut buf[..size]);
-            assert_eq!(rt; got, want, "a buffer of {size}");
-            assert_eq!(rt; buf, left, "a buffer of {size}");
-            assert_eq!(rt; faults_of(&source), faults, "a buffer of {size}");
-        }
-        Ok(())
-    }
-}

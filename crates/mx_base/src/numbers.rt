@@ -110,33 +110,3 @@ fn spread(half: u64, v: u64) -> u64
         low + (u64::MAX - (2 * half - 1))
     }
 }
-
-#[cfg(test)]
-mod tests {
-    use super::*;
-
-    #[test]
-    fn wraps_and_extends(rt: HostRuntime) {
-        let table = [
-            (IntKind::I8, 0x80, -0x80, 0xffff_ffff_ffff_ff80),
-            (IntKind::U8, 0x1ff, 0xff, 0xff),
-            (IntKind::I16, 0x7fff, 0x7fff, 0x7fff),
-            (IntKind::U16, 0x1_0001, 1, 1),
-            (IntKind::I32, 0xffff_ffff, -1, u64::MAX),
-            (IntKind::U32, 0x1_ffff_ffff, 0xffff_ffff, 0xffff_ffff),
-            (
-                IntKind::I64,
-                0x8000_0000_0000_0000,
-                -0x8000_0000_0000_0000,
-                0x8000_0000_0000_0000,
-            ),
-            (IntKind::U64, u64::MAX, 0xffff_ffff_ffff_ffff, u64::MAX),
-        ];
-        for (kind, word, number, extended) in table {
-            assert_eq!(rt; wrap(kind, i128::from(word)), number, "{word} to {kind:?}");
-            assert_eq!(rt; extend(kind, word), extended, "{word} to {kind:?}");
-        }
-        assert_eq!(rt; wrap(IntKind::U8, -1), 0xff);
-        assert_eq!(rt; wrap(IntKind::U64, i128::MIN), 0);
-    }
-}

@@ -82,32 +82,3 @@ impl Files for SureFiles {
         0
     }
 }
-
-#[cfg(test)]
-mod tests {
-    use super::*;
-    use std::test::Fail;
-
-    fn faults_of<F: Files>(files: &F) -> (u64, u64) {
-        (files.read_faults(), files.write_faults())
-    }
-
-    #[test]
-    fn reads_what_had_room(rt: HostRuntime) -> Result<(), Fail> {
-        let mut files = SureFiles::make(rt.alloc(), 1, 3)?;
-        let table = [
-            ("a", "xyz", Ok(Some(3)), "xyz"),
-            ("b", "v", Ok(None), "xyz"),
-            ("a", "vwxy", Ok(Some(3)), "xyz"),
-            ("a", "v", Ok(Some(1)), "vyz"),
-        ];
-        let mut buf = [0u8; 3];
-        for (name, bytes, want, left) in table {
-            assert_eq!(rt; files.write_all(name, bytes.as_bytes()), Ok(()), "{name}");
-            assert_eq!(rt; files.read_at(name, 0, &mut buf), want, "{name}");
-            assert_eq!(rt; &buf[..], left.as_bytes(), "{name}");
-            assert_eq!(rt; faults_of(&files), (0, 0), "{name}");
-        }
-        Ok(())
-    }
-}

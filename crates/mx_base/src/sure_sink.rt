@@ -71,30 +71,3 @@ impl Sink for SureSink {
         0
     }
 }
-
-#[cfg(test)]
-mod tests {
-    use super::*;
-    use std::test::Fail;
-
-    fn faults_of<O: Sink>(sink: &O) -> u64 {
-        sink.faults()
-    }
-
-    #[test]
-    fn keeps_what_fits(rt: HostRuntime) -> Result<(), Fail> {
-        let mut sink = SureSink::make(rt.alloc(), 4)?;
-        let table = [
-            ("abc", Ok(3), "abc"),
-            ("", Ok(0), "abc"),
-            ("def", Ok(3), "abcd"),
-            ("g", Ok(1), "abcd"),
-        ];
-        for (piece, want, held) in table {
-            assert_eq!(rt; sink.put(piece.as_bytes()), want, "{piece}");
-            assert_eq!(rt; sink.held(), held.as_bytes(), "{piece}");
-            assert_eq!(rt; faults_of(&sink), 0, "{piece}");
-        }
-        Ok(())
-    }
-}

@@ -54,33 +54,3 @@ impl Source for SureSource {
         0
     }
 }
-
-#[cfg(test)]
-mod tests {
-    use super::*;
-    use std::test::Fail;
-
-    fn faults_of<I: Source>(source: &I) -> u64 {
-        source.faults()
-    }
-
-    #[test]
-    fn takes_in_order(rt: HostRuntime) -> Result<(), Fail> {
-        let mut source = SureSource::make(rt.alloc(), &[1, 2, 3])?;
-        let mut buf = [0u8; 2];
-        let table = [
-            (0, Ok(0), [0, 0]),
-            (2, Ok(2), [1, 2]),
-            (2, Ok(1), [3, 2]),
-            (2, Ok(0), [3, 2]),
-        ];
-        for (size, want, left) in table {
-            assert!(rt; size <= buf.len());
-            let got = source.take(&mut buf[..size]);
-            assert_eq!(rt; got, want, "a buffer of {size}");
-            assert_eq!(rt; buf, left, "a buffer of {size}");
-            assert_eq!(rt; faults_of(&source), 0, "a buffer of {size}");
-        }
-        Ok(())
-    }
-}

@@ -38,38 +38,3 @@ pub fn members_stay_within()
     ensures within { (flags : FlagsOf) (first : Bool) (offset size p q s : ℕ) (b : Bounds) → is_outside q s (member_bounds flags first offset size p b) ≡ false → is_outside q s b ≡ false }
     ensures narrowed { (flags : FlagsOf) (offset size p q s : ℕ) (b : Bounds) → flags.narrow ≡ true → 1 ≤ size → is_outside q s (member_bounds flags false offset size p b) ≡ false → (moved p offset ≤ q) × (last_byte q s ≤ last_byte (moved p offset) size) }
 {}
-
-#[cfg(test)]
-mod tests {
-    use super::*;
-
-    #[test]
-    fn narrows_later_members_alone(rt: HostRuntime) {
-        let on = Flags { narrow: true };
-        let off = Flags { narrow: false };
-        // struct S { int a; int b[2]; int c; }
-        let table = [
-            (true, 0, 4, on, Rule::Keep),
-            (true, 0, 4, off, Rule::Keep),
-            (false, 4, 8, on, Rule::Meet { offset: 4, size: 8 }),
-            (false, 4, 8, off, Rule::Keep),
-            (
-                false,
-                12,
-                4,
-                on,
-                Rule::Meet {
-                    offset: 12,
-                    size: 4,
-                },
-            ),
-        ];
-        for (first, offset, size, flags, want) in table {
-            assert_eq!(rt;
-                of_member(first, offset, size, flags),
-                want,
-                "{size} bytes at {offset}"
-            );
-        }
-    }
-}

@@ -61,32 +61,3 @@ pub fn judge_jump(from: u64, to: u64, call: bool, ret: bool, outers: u32) -> Ver
         Verdict::Fine
     }
 }
-
-#[cfg(test)]
-mod tests {
-    use super::*;
-
-    #[test]
-    fn legacy_code_enters_by_the_landing_and_by_calls_of_outer_entries(rt: HostRuntime) {
-        let legacy = 0x1200_0000;
-        let table = [
-            (legacy, 0x0100_0400, false, false, true),
-            (legacy, 0x0100_0401, false, true, false),
-            (legacy, 0x0101_0080, true, false, true),
-            (legacy, 0x0101_0080, false, false, false),
-            (legacy, 0x0101_0100, true, false, false),
-            (legacy, 0x1100_0000, false, false, true),
-            (0x0101_00ff, 0x0100_0000, false, true, false),
-            (0x0101_00ff, 0x0100_0000, false, false, true),
-            (0x0101_0100, 0x0100_0000, false, true, true),
-        ];
-        for (from, to, call, ret, fine) in table {
-            let verdict = if fine {
-                Verdict::Fine
-            } else {
-                Verdict::Strayed(to)
-            };
-            assert_eq!(rt; judge_jump(from, to, call, ret, 2), verdict, "{from} {to}");
-        }
-    }
-}

@@ -15,6 +15,3 @@ pub use conditions::holds;
 pub use division::divide;
 pub use op::{AluOp, Four};
 pub use operations::arith;
-
-#[cfg(test)]
-mod tests;

@@ -14,6 +14,3 @@ mod values;
 
 pub use laws::one_form;
 pub use reader::{Undecoded, decode};
-
-#[cfg(test)]
-mod tests;

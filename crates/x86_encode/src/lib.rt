@@ -5,6 +5,3 @@ mod bytes;
 mod layouts;
 
 pub use bytes::encode;
-
-#[cfg(test)]
-mod tests;

@@ -166,6 +166,3 @@ pub fn lower_early(alloc: Global, e: &Early) -> Result<Vec<u8>, OutOfMemory>
     push_end(&mut code, e.code)?;
     Ok(code)
 }
-
-#[cfg(test)]
-mod tests;

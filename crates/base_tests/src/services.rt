@@ -1,8 +1,9 @@
-//! Services over streams that fail, and that take few bytes a call.
+//! The heap and the services, also over streams that fail and that take few bytes a call.
 ghost use Rattle.std.specs.Prelude.{◌<◌, Some};
 
-use super::*;
-use mx_base::{MemSink, MemSource};
+use guest_services::{Heap, Served, call};
+use mx_base::{Failed, MemSink, MemSource, Sink};
+use paged_memory::Memory;
 use std::test::Fail;
 
 /// A sink that takes no more than some bytes a put.
@@ -54,13 +55,13 @@ fn a_fault_leaves_a_front_of_what_was_due(rt: HostRuntime) -> Result<(), Fail> {
         (put, 3, 1, 1, Served::Value(0)),
     ];
     for ((number, args, due), most, fails, count, want) in table {
-        assert!(rt; 0 < most && count <= due.len(), "{most}");
+        assert!(rt; 0 < most && count <= due.len());
         let inner = MemSink::make(rt.alloc(), 200, &[fails])?;
         let mut out = Slow { inner, most };
         let mut input = MemSource::make(rt.alloc(), b"", &[])?;
         let got = call(&mut heap, &m, number, args, &mut input, &mut out);
-        assert_eq!(rt; got, want, "{number}, {fails}");
-        assert_eq!(rt; out.inner.held(), &due[..count], "{number}, {fails}");
+        let row = (number, most, fails);
+        assert_eq!(rt; (row, got, out.inner.held()), (row, want, &due[..count]));
     }
     Ok(())
 }
@@ -100,12 +101,86 @@ fn each_service_answers(rt: HostRuntime) -> Result<(), Fail> {
         (0x1002, [7, 0, 0], Served::WriteFault),
     ];
     for (number, args, want) in table {
-        assert_eq!(rt;
-            call(&mut heap, &m, number, args, &mut input, &mut out),
-            want,
-            "{number}"
-        );
+        let got = call(&mut heap, &m, number, args, &mut input, &mut out);
+        assert_eq!(rt; (number, args, got), (number, args, want));
     }
     assert_eq!(rt; out.held(), b"abc\0\0-12\nz7".as_slice());
+    Ok(())
+}
+
+/// What a heap is asked: for a block of some bytes, or to take back the block at an address.
+#[derive(Clone, Copy, Debug, PartialEq, Eq)]
+enum Ask {
+    Alloc(u64),
+    Free(u64),
+}
+
+/// The address of the block, 0 for none; or 1 for a block that was taken back, 0 for none.
+fn answer(heap: &mut Heap, asked: Ask) -> u64 {
+    match asked {
+        Ask::Alloc(size) => heap.alloc(size),
+        Ask::Free(a) => u64::from(heap.free(a)),
+    }
+}
+
+#[test]
+fn as_many_blocks_live_as_may(rt: HostRuntime) -> Result<(), Fail> {
+    let mut heap = Heap::make(rt.alloc())?;
+    for k in 0..65_536u64 {
+        assert_eq!(rt; heap.alloc(1), 0x3000_0000 + 16 * k);
+    }
+    assert_eq!(rt; heap.alloc(1), 0);
+    // Every second block is free. The last one touches the bytes behind it, the others touch none.
+    for k in 0..32_768u64 {
+        assert!(rt; heap.free(0x3000_0010 + 32 * k));
+    }
+    let table = [
+        (Ask::Alloc(17), 0x300f_fff0),
+        (Ask::Alloc(16), 0x3000_0010),
+        (Ask::Alloc(0x0ff0_0000), 0),
+        (Ask::Alloc(0x0fef_fff0), 0x3010_0010),
+        (Ask::Alloc(17), 0),
+        (Ask::Alloc(1), 0x3000_0030),
+        // Blocks that touch are one range again.
+        (Ask::Free(0x3000_0040), 1),
+        (Ask::Free(0x3000_0080), 1),
+        (Ask::Alloc(49), 0),
+        (Ask::Free(0x3000_0060), 1),
+        (Ask::Alloc(96), 0x3000_0040),
+    ];
+    for (asked, want) in table {
+        let found = answer(&mut heap, asked);
+        assert_eq!(rt; (asked, found), (asked, want));
+    }
+    Ok(())
+}
+
+#[test]
+fn blocks_come_from_the_front_and_join_again(rt: HostRuntime) -> Result<(), Fail> {
+    let mut heap = Heap::make(rt.alloc())?;
+    let table = [
+        (Ask::Alloc(0), 0),
+        (Ask::Alloc(1), 0x3000_0000),
+        (Ask::Alloc(17), 0x3000_0010),
+        (Ask::Alloc(16), 0x3000_0030),
+        (Ask::Alloc(u64::MAX), 0),
+        (Ask::Alloc(0x0fff_ffc1), 0),
+        (Ask::Free(0x3000_0010), 1),
+        (Ask::Free(0x3000_0010), 0),
+        (Ask::Free(0x3000_0018), 0),
+        (Ask::Free(0x3000_0008), 0),
+        (Ask::Free(0), 0),
+        (Ask::Alloc(33), 0x3000_0040),
+        (Ask::Alloc(32), 0x3000_0010),
+        (Ask::Free(0x3000_0000), 1),
+        (Ask::Free(0x3000_0030), 1),
+        (Ask::Free(0x3000_0010), 1),
+        (Ask::Alloc(65), 0x3000_0070),
+        (Ask::Alloc(64), 0x3000_0000),
+    ];
+    for (asked, want) in table {
+        let found = answer(&mut heap, asked);
+        assert_eq!(rt; (asked, found), (asked, want));
+    }
     Ok(())
 }
