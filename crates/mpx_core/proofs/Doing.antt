@@ -20,7 +20,8 @@ use Rattle.mpx_core.specs.declared.registers.BndRegs.{BndRegs}
 use Rattle.mpx_core.specs.declared.registers.BndStop.{BndStop}
 use Rattle.mpx_core.specs.declared.registers.BndStop.TheVariants.{Violation, Stop as Stopped}
 use Rattle.mpx_core.specs.Registers.{held_bounds, bounds_of, with_status}
-use Rattle.mpx_core.specs.Steps.{framed_of, framed_result, as_walk, status_after, walked_write, walked_load, walked_keep, Beside, seen, outcome_of, Does, stop_of}
+use Rattle.paged_memory.specs.Framed.{framed_of}
+use Rattle.mpx_core.specs.Steps.{framed_result, as_walk, status_after, walked_write, walked_load, walked_keep, Beside, seen, outcome_of, Does, stop_of}
 use Rattle.mpx_core.proofs.Views.{seen_set, twice}
 use Rattle.mpx_core.proofs.Writing.{written, entry_written}
 use Rattle.mpx_core.proofs.StoredBounds.{from_words, two_words_put}

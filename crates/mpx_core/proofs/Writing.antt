@@ -11,7 +11,8 @@ use Rattle.paged_memory.specs.Answers.{Writes, Touches, IsShort}
 use Rattle.bound_tables.specs.declared.walks.Walk.{Walk}
 use Rattle.bound_tables.specs.declared.walks.Walk.TheVariants.{Invalid, Stop}
 use Rattle.bound_tables.specs.Entries.{WritesEntry}
-use Rattle.mpx_core.specs.Steps.{framed_of, framed_answer, framed_result, as_walk}
+use Rattle.paged_memory.specs.Framed.{framed_of}
+use Rattle.mpx_core.specs.Steps.{framed_answer, framed_result, as_walk}
 
 put : (n at : ℕ) (bytes : Bytes) (old new : Paged) → bytes ≡ bytes_of new → Touches n at old new → framed_answer (framed_of old) (touched_by n at (touched_of old)) (Ok bytes) ≡ Ok (framed_of new)
 put n at bytes old new same t =

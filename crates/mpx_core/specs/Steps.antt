@@ -7,7 +7,8 @@ use Rattle.paged_memory.specs.declared.stops.MemStop.{MemStop}
 use Rattle.paged_memory.specs.declared.stops.MemStop.TheVariants.{NoFrames}
 use Rattle.paged_memory.specs.Answers.{load_answer, store_answer}
 use Rattle.paged_memory.specs.Touched.{touched_by, frames_for}
-use Rattle.paged_memory.specs.Paged.{Paged, bytes_of, touched_of}
+use Rattle.paged_memory.specs.Framed.{Framed, framed_of}
+use Rattle.paged_memory.specs.Paged.{Paged}
 use Rattle.bound_tables.specs.declared.entries.Entry.{Entry}
 use Rattle.bound_tables.specs.declared.walks.Walk.{Walk}
 use Rattle.bound_tables.specs.declared.walks.Walk.TheVariants.{Invalid, Stop}
@@ -25,15 +26,6 @@ use Rattle.mpx_core.specs.declared.registers.BndStop.TheVariants.{Violation, Inv
 use Rattle.mpx_core.specs.Registers.{bounds_of, preserves}
 
 -- ---- the memory, with the walk as its store of bounds
-
--- the byte at each address, the touched pages, and how many frames there are
-pub record Framed : Type 0 where
-  pub bytes : Bytes
-  pub touched : List ℕ
-  pub capacity : ℕ
-
-abbrev pub framed_of : Paged → Framed
-framed_of m = record { bytes = bytes_of m; touched = touched_of m; capacity = m.capacity }
 
 -- bytes that were written, if there are frames for the pages that are touched then
 abbrev pub framed_answer : Framed → List ℕ → Result Bytes Walk → Result Framed Walk

@@ -4,7 +4,8 @@ ghost use Rattle.bound_tables.specs.Walks.{is_configuration};
 ghost use Rattle.x86_forms.specs.Requests.{Loads, Keeps, Ends};
 ghost use Rattle.x86_forms.specs.Table.{at_next, with_bnd};
 ghost use Rattle.mpx_core.specs.Registers.{bounds_of, with_status};
-ghost use Rattle.mpx_core.specs.Steps.{Beside, seen, Does, status_of, stop_of, status_after, IsLow, walked_keep, framed_of, framed_result};
+ghost use Rattle.paged_memory.specs.Framed.{framed_of};
+ghost use Rattle.mpx_core.specs.Steps.{Beside, seen, Does, status_of, stop_of, status_after, IsLow, walked_keep, framed_result};
 
 use crate::registers::{BndRegs, BndStop, set_register, word_of};
 use bound_tables::{Entry, Walk, load_entry, store_entry};

@@ -1,5 +1,5 @@
 -- What `exec` reads, and what its run leaves.
-use Rattle.std.proofs.Common.{◌≡◌, ℕ, ◌<◌, ◌≤◌, Option, None, Some, Ok, Err, List, [], length, take, sym, ap, ◌∙◌, subst, inr, arith}
+use Rattle.std.proofs.Common.{◌≡◌, ℕ, ◌<◌, ◌≤◌, Option, None, Some, Ok, Err, List, [], length, take, sym, ap, ◌∙◌, subst, arith}
 use Rattle.std.specs.Prelude.{Result}
 use Rattle.std.proofs.lemmas.List.{take_all, length-take}
 use Rattle.mx_base.specs.declared.stops.Stop.{Stop}
@@ -10,15 +10,15 @@ use Rattle.obj_file.specs.Machine.{State}
 use Rattle.obj_file.specs.Runs as runs
 use Rattle.obj_file.specs.Loaded.{Tabled, image_run}
 use Rattle.mx_run.specs.declared.machine.Machine.{Machine}
-use Rattle.mx_run.specs.Events.{Around, IsNow, IsCut, Ends, out_of, FindsFew, GivesUp}
-use Rattle.mx_run.specs.Machines.{ground_of, machine_state, IsAtStart}
 use Rattle.mx_run.specs.declared.parts.Parts.{Parts}
-use Rattle.mx_run.specs.Parts.{ground}
+use Rattle.mx_run.specs.Backed.{Backed, ground, image_ground, in_bytes, over_frames}
+use Rattle.mx_run.specs.Events.{Around, IsNow, IsCut, Ends, EndsInBytes, out_of}
+use Rattle.mx_run.specs.Machines.{ground_of, machine_state, framed_ground_of, framed_state, framed_run, lacks_frames, Runs, RunsInBytes, IsAtStart}
 use Rattle.mpx_main.specs.declared.end.End.{End}
 use Rattle.mpx_main.specs.declared.end.End.TheVariants as end
 use Rattle.mpx_main.specs.declared.options.Settings.{Settings}
 use Rattle.mpx_main.specs.Sources.{IsFrontOf}
-use Rattle.mpx_main.specs.Exec.{config_of, file_limit, WhereTold, IsLarge, IsSpelling, SpellsNone, IsRefused, Loads, Reads, due_run, Leaves, Comes, HasFewFrames, RunsImage}
+use Rattle.mpx_main.specs.Exec.{config_of, file_limit, WhereTold, IsLarge, IsSpelling, SpellsNone, IsRefused, Loads, Reads, mode_of, due_run, Leaves, Comes, lack_of, TellsLack, RunsImage}
 
 -- ---- the file
 
@@ -62,52 +62,58 @@ loaded facts front (Err why) f h = refused facts front why f h
 -- the run of a machine that stands at an image's start is the run of the image
 same_run : (v : Image) (s : Settings) (m : Machine) (input : List ℕ) → IsAtStart v (config_of s) m → runs.run_of (ground_of m) s.turns (machine_state m input []) ≡ due_run s v input
 unfolding image_run
-same_run v s m input start = λ i. runs.run_of (ground (start.cfg i) (start.outers i) (start.bare i)) s.turns (start.state input i)
+same_run v s m input start = λ i. runs.run_of (image_ground (start.cfg i) (start.outers i) (start.bare i)) s.turns (start.state input i)
 
-leaves : (held : Option (List ℕ)) (new : Around) (t : State Tabled) → IsNow held [] new t → Leaves t held new.held new.left
+same_framed : (v : Image) (s : Settings) (m : Machine) (input : List ℕ) → IsAtStart v (config_of s) m → runs.run_of (framed_ground_of m) s.turns (framed_state m input []) ≡ framed_run v (mode_of s) s.frames s.turns input
+unfolding framed_run
+same_framed v s m input start = λ i. runs.run_of (ground (start.cfg i) (start.outers i) (start.bare i)) s.turns (over_frames (start.state input i) (start.touched i) (start.frames i))
+
+leaves : (held : Option (List ℕ)) (new : Around) (t : State Backed) → IsNow held [] new t → Leaves (in_bytes t) held new.held new.left
 leaves held new t n = record {
-  puts = subst (Adds held new.held) (sym (ap (λ (x : State Tabled). x.guest.out) n.is)) n.adds;
-  left = n.left ∙ ap Some (sym (ap (λ (x : State Tabled). x.guest.input) n.is));
+  puts = subst (Adds held new.held) (sym (ap (λ (x : State Backed). x.guest.out) n.is)) n.adds;
+  left = n.left ∙ ap Some (sym (ap (λ (x : State Backed). x.guest.input) n.is));
 }
 
 cut : (held held' : Option (List ℕ)) (out : List ℕ) → IsCut held [] held' out → AddsFront held held' out
 cut held held' out h = record { front = h.front; rest = h.rest; splits = h.splits; adds = h.adds }
 
-comes : (e : runs.End Tabled) (held : Option (List ℕ)) (new : Around) (why : Stop) → Ends e held [] new why → Comes e why held new.held new.left
-comes e held new (stop.Exit code) (t, is, now) = (t, is, leaves held new t now)
-comes e held new (stop.Bounds breach) (t, is, now) = (t, is, leaves held new t now)
-comes e held new (stop.Unmapped a) (t, is, now) = (t, is, leaves held new t now)
-comes e held new stop.Divide (t, is, now) = (t, is, leaves held new t now)
-comes e held new (stop.Undefined a) (t, is, now) = (t, is, leaves held new t now)
-comes e held new stop.StackOver (t, is, now) = (t, is, leaves held new t now)
-comes e held new stop.OutOfTurns (t, is, now) = (t, is, leaves held new t now)
-comes e held new (stop.Strayed a) (t, is, now) = (t, is, leaves held new t now)
-comes e held new stop.NoTable (t, is, now) = (t, is, leaves held new t now)
+comes : (e : runs.End Tabled) (held : Option (List ℕ)) (new : Around) (why : Stop) → EndsInBytes e held [] new why → Comes e why held new.held new.left
+comes e held new (stop.Exit code) (t, is, now) = (in_bytes t, is, leaves held new t now)
+comes e held new (stop.Bounds breach) (t, is, now) = (in_bytes t, is, leaves held new t now)
+comes e held new (stop.Unmapped a) (t, is, now) = (in_bytes t, is, leaves held new t now)
+comes e held new stop.Divide (t, is, now) = (in_bytes t, is, leaves held new t now)
+comes e held new (stop.Undefined a) (t, is, now) = (in_bytes t, is, leaves held new t now)
+comes e held new stop.StackOver (t, is, now) = (in_bytes t, is, leaves held new t now)
+comes e held new stop.OutOfTurns (t, is, now) = (in_bytes t, is, leaves held new t now)
+comes e held new (stop.Strayed a) (t, is, now) = (in_bytes t, is, leaves held new t now)
+comes e held new stop.NoTable (t, is, now) = (in_bytes t, is, leaves held new t now)
 comes e held new (stop.NoFrames in_use capacity) h = cut held new.held (out_of e) h
 comes e held new stop.ReadFault h = cut held new.held (out_of e) h
 comes e held new stop.WriteFault h = cut held new.held (out_of e) h
 
-few_frames : (s : Settings) (v : Image) (m : Machine) (left held : Option (List ℕ)) (why : Stop) → IsAtStart v (config_of s) m → FindsFew (GivesUp (ground_of m) s.turns left held m.parts) (Some why) → HasFewFrames s v left held why
-few_frames s v m left held (stop.NoFrames in_use capacity) start h = inr (record { machine = m; start = start; gives_up = h })
-few_frames s v m left held (stop.Exit code) start h = tt
-few_frames s v m left held (stop.Bounds breach) start h = tt
-few_frames s v m left held (stop.Unmapped a) start h = tt
-few_frames s v m left held stop.Divide start h = tt
-few_frames s v m left held (stop.Undefined a) start h = tt
-few_frames s v m left held stop.StackOver start h = tt
-few_frames s v m left held stop.OutOfTurns start h = tt
-few_frames s v m left held (stop.Strayed a) start h = tt
-few_frames s v m left held stop.NoTable start h = tt
-few_frames s v m left held stop.ReadFault start h = tt
-few_frames s v m left held stop.WriteFault start h = tt
+-- whether frames were too few, by how the run over them ended
+tells : (e : runs.End Backed) (held : Option (List ℕ)) (new : Around) (why : Stop) → Ends e held [] new why → TellsLack (lacks_frames e) why
+tells e held new (stop.Exit code) h = ap lacks_frames h.1
+tells e held new (stop.Bounds breach) h = ap lacks_frames h.1
+tells e held new (stop.Unmapped a) h = ap lacks_frames h.1
+tells e held new stop.Divide h = ap lacks_frames h.1
+tells e held new (stop.Undefined a) h = ap lacks_frames h.1
+tells e held new stop.StackOver h = ap lacks_frames h.1
+tells e held new stop.OutOfTurns h = ap lacks_frames h.1
+tells e held new (stop.Strayed a) h = ap lacks_frames h.1
+tells e held new stop.NoTable h = ap lacks_frames h.1
+tells e held new (stop.NoFrames in_use capacity) h = ap lacks_frames h.1
+tells e held new stop.ReadFault h = tt
+tells e held new stop.WriteFault h = tt
 
 -- the run of a machine at an image's start, as a run of the image
 pub ran : (v : Image) (s : Settings) (m : Machine) → IsAtStart v (config_of s) m
     → (parts : Parts) (why : Stop) (held held' left left' : Option (List ℕ))
-    → (m.kept ≡ None → (bytes so_far : List ℕ) → left ≡ Some bytes → Ends (runs.run_of (ground_of m) s.turns (machine_state m bytes so_far)) held so_far (record { parts = parts; left = left'; held = held' }) why)
-    → (m.kept ≡ None → FindsFew (GivesUp (ground_of m) s.turns left held m.parts) (Some why)) → RunsImage s v left (Ok why) held held' left'
-ran v s m start parts why held held' left left' ends few = (
-  few_frames s v m left held why start (few start.kept),
-  λ input e. comes (due_run s v input) held (record { parts = parts; left = left'; held = held' }) why
-      (subst (λ (r : runs.End Tabled). Ends r held [] (record { parts = parts; left = left'; held = held' }) why) (same_run v s m input start) (ends start.kept input [] e)),
-)
+    → (m.kept ≡ None → RunsInBytes m s.turns left held (record { parts = parts; left = left'; held = held' }) why) → (m.kept ≡ None → Runs m s.turns left held (record { parts = parts; left = left'; held = held' }) why)
+    → RunsImage s v left (Ok why) held held' left'
+ran v s m start parts why held held' left left' ends framed = λ input e.
+    let new : Around = record { parts = parts; left = left'; held = held' } in
+    let over : Ends (framed_run v (mode_of s) s.frames s.turns input) held [] new why = subst (λ (r : runs.End Backed). Ends r held [] new why) (same_framed v s m input start) (framed start.kept input [] e) in (
+      subst (λ (lack : Option (ℕ × ℕ)). TellsLack lack why) (sym (ap (λ used. lack_of used s.frames (framed_run v (mode_of s) s.frames s.turns input)) start.fits)) (tells _ held new why over),
+      comes (due_run s v input) held new why (subst (λ (r : runs.End Tabled). EndsInBytes r held [] new why) (same_run v s m input start) (ends start.kept input [] e)),
+    )

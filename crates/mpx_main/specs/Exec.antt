@@ -1,5 +1,5 @@
 -- What `exec` does: the image in a file is run, and the last line tells how that ended.
-use Rattle.std.specs.Prelude.{◌≡◌, ℕ, ◌<◌, ◌≤◌, ◌⊎◌, Option, Some, Result, Ok, Err, List, [], length}
+use Rattle.std.specs.Prelude.{◌≡◌, ℕ, ◌<◌, ◌≤◌, Option, Some, None, Result, Ok, Err, List, [], length}
 use Rattle.mx_base.specs.declared.memory.OutOfMemory.{OutOfMemory}
 use Rattle.mx_base.specs.declared.stops.Stop.{Stop}
 use Rattle.mx_base.specs.declared.stops.Stop.TheVariants as stop
@@ -10,9 +10,9 @@ use Rattle.obj_file.specs.Machine.{State}
 use Rattle.obj_file.specs.Runs as runs
 use Rattle.obj_file.specs.Loaded.{Tabled, Mode, image_run}
 use Rattle.mx_run.specs.declared.config.Config.{Config}
-use Rattle.mx_run.specs.declared.machine.Machine.{Machine}
-use Rattle.mx_run.specs.Events.{out_of, CountsReads, CountsWrites, GivesUp}
-use Rattle.mx_run.specs.Machines.{ground_of, IsAtStart}
+use Rattle.mx_run.specs.Backed.{Backed}
+use Rattle.mx_run.specs.Events.{out_of, CountsReads, CountsWrites}
+use Rattle.mx_run.specs.Machines.{framed_run, lacks_frames}
 use Rattle.mx_run.specs.Placing.{used_before}
 use Rattle.mx_run.specs.Reads.{reader}
 use Rattle.mpx_main.specs.declared.end.End.{End}
@@ -115,20 +115,24 @@ Comes e why held held' left' = (t : State Tabled) × (e ≡ runs.Stopped why t) 
 abbrev pub config_of : Settings → Config
 config_of s = record { frames = s.frames; preserve = s.preserve; bare = s.bare }
 
--- a machine at the start of an image came to a write that found too few free frames, with these numbers
-pub record StopsShort (s : Settings) (v : Image) (left held : Option (List ℕ)) (in_use capacity : ℕ) : Type 0 where
-  pub machine : Machine
-  pub start : IsAtStart v (config_of s) machine
-  pub gives_up : GivesUp (ground_of machine) s.turns left held machine.parts in_use capacity
+-- the frames in use, and how many there are, where these are too few: for the segments of the image, or else for a write of its run
+abbrev pub lack_of : Option ℕ → ℕ → runs.End Backed → Option (ℕ × ℕ)
+lack_of (Some in_use) frames run = Some (in_use, frames)
+lack_of None frames run = lacks_frames run
 
--- too few frames: for the segments of the image, or for a write of its run
-abbrev pub HasFewFrames : Settings → Image → Option (List ℕ) → Option (List ℕ) → Stop → Type 0
-HasFewFrames s v left held (stop.NoFrames in_use capacity) = ((used_before s.frames [] v.segments ≡ Some in_use) × (capacity ≡ s.frames)) ⊎ StopsShort s v left held in_use capacity
-HasFewFrames s v left held why = Unit {0}
+abbrev pub due_lack : Settings → Image → List ℕ → Option (ℕ × ℕ)
+due_lack s v input = lack_of (used_before s.frames [] v.segments) s.frames (framed_run v (mode_of s) s.frames s.turns input)
+
+-- it stopped for want of frames exactly where they are too few, with these numbers; a fault of the outside came before that
+abbrev pub TellsLack : Option (ℕ × ℕ) → Stop → Type 0
+TellsLack lack (stop.NoFrames in_use capacity) = lack ≡ Some (in_use, capacity)
+TellsLack lack stop.ReadFault = Unit {0}
+TellsLack lack stop.WriteFault = Unit {0}
+TellsLack lack why = lack ≡ None
 
 -- the run of an image, or want of memory before it
 abbrev pub RunsImage : Settings → Image → Option (List ℕ) → Result Stop OutOfMemory → Option (List ℕ) → Option (List ℕ) → Option (List ℕ) → Type 0
-RunsImage s v left (Ok why) held held' left' = HasFewFrames s v left held why × ((input : List ℕ) → left ≡ Some input → Comes (due_run s v input) why held held' left')
+RunsImage s v left (Ok why) held held' left' = (input : List ℕ) → left ≡ Some input → TellsLack (due_lack s v input) why × Comes (due_run s v input) why held held' left'
 RunsImage s v left (Err lack) held held' left' = Adds held held' [] × (left' ≡ left)
 
 -- the counts of the source and of the sink rise exactly where their fault ends the run

@@ -6,8 +6,6 @@ ghost use Rattle.mpx_main.specs.Ends.{refusal_of, ends_words};
 
 mod end;
 mod exec;
-#[cfg(test)]
-mod exec_tests;
 mod line;
 mod options;
 mod real;

@@ -13,54 +13,55 @@ use Rattle.x86_core.specs.declared.cpu.Cpu.{Cpu}
 use Rattle.mpx_core.specs.declared.registers.BndRegs.{BndRegs}
 use Rattle.obj_file.specs.Machine.{Reading, Is, Part, Neither, Ground, State, Deed, Does, Halts, Goes, Stops, is_call, is_return, deed_of, deed_by, event, event_of, event_by, reading_at, counted, owes, next_address, fetched_size}
 use Rattle.obj_file.specs.Runs.{End, Out, Stopped, after, run_of}
-use Rattle.obj_file.specs.Loaded.{Tabled}
 use Rattle.obj_file.proofs.RunLaws.{forward_of, run_step}
 use Rattle.mx_run.specs.declared.parts.Parts.{Parts}
 use Rattle.mx_run.specs.Reads.{found_at, found_by}
-use Rattle.mx_run.specs.Parts.{ground, state_of, processor_of}
-use Rattle.mx_run.specs.Events.{Around, IsNow, IsCut, Acts, Ends, Moves, TakesTurn, IsLost, out_of, left_of, CountsReads, CountsWrites, FindsFew}
-use Rattle.mx_run.proofs.Growth.{Grows, no_more, deed_grows, after_grows, event_of_grows, run_grows}
+use Rattle.mx_run.specs.Backed.{Backed, ground}
+use Rattle.mx_run.specs.Parts.{state_of, processor_of}
+use Rattle.mx_run.specs.Events.{Around, IsNow, IsCut, Acts, Ends, Moves, TakesTurn, IsLost, out_of, left_of, CountsReads, CountsWrites}
+use Rattle.mx_run.specs.FrameLaw.{Grows}
+use Rattle.mx_run.proofs.Growth.{no_more, deed_grows, after_grows, event_of_grows, run_grows}
 use Rattle.mx_run.proofs.Back.{leads_back}
 use Rattle.mx_run.proofs.Doing.{now_same}
 
 -- ---- an event that stops
 
-stops_after : (g : Ground Tabled) (turns : ℕ) (s t : State Tabled) (why : Stop) (b : Bool) → (b ≡ true → 0 < turns) → after (run_of g) turns s (Stops b why t) ≡ Stopped why t
+stops_after : (g : Ground Backed) (turns : ℕ) (s t : State Backed) (why : Stop) (b : Bool) → (b ≡ true → 0 < turns) → after (run_of g) turns s (Stops b why t) ≡ Stopped why t
 stops_after g zero s t why false h = refl
 stops_after g (suc u) s t why false h = refl
 stops_after g zero s t why true h = absurd (let k = h refl in omega arith)
 stops_after g (suc u) s t why true h = refl
 
-module _ (g : Ground Tabled) (turns : ℕ) (s : State Tabled) (owed : Bool) where
-  abbrev By : Deed Tabled → End Tabled
+module _ (g : Ground Backed) (turns : ℕ) (s : State Backed) (owed : Bool) where
+  abbrev By : Deed Backed → End Backed
   By d = after (run_of g) turns s (event_of s owed d)
 
   abbrev IsPaid : Type 0
   IsPaid = (is_legacy s.processor.rip || owed) ≡ true → 0 < turns
 
-  pub by_halt : (why : Stop) (t : State Tabled) (d : Deed Tabled) → IsPaid → d ≡ Halts why t → By d ≡ Stopped why t
+  pub by_halt : (why : Stop) (t : State Backed) (d : Deed Backed) → IsPaid → d ≡ Halts why t → By d ≡ Stopped why t
   by_halt why t d paid e = ap By e ∙ stops_after g turns s t why (is_legacy s.processor.rip || owed) paid
 
-  by_grows : (d : Deed Tabled) → Grows s.guest.out (left_of d).guest.out → Grows s.guest.out (out_of (By d))
+  by_grows : (d : Deed Backed) → Grows s.guest.out (left_of d).guest.out → Grows s.guest.out (out_of (By d))
   by_grows d h = after_grows g turns s (event_of s owed d) (forward_of g s owed d) (event_of_grows g s owed d h) (λ u t _. run_grows g u t)
 
-  goes_grows : (b : Bool) (t : State Tabled) → (b ≡ true → turns ≡ 0 → t.guest ≡ s.guest) → Grows t.guest.out (out_of (after (run_of g) turns s (Goes b (counted t))))
+  goes_grows : (b : Bool) (t : State Backed) → (b ≡ true → turns ≡ 0 → t.guest ≡ s.guest) → Grows t.guest.out (out_of (after (run_of g) turns s (Goes b (counted t))))
   goes_grows = goes_by turns
     where
-      goes_by : (n : ℕ) (b : Bool) (t : State Tabled) → (b ≡ true → n ≡ 0 → t.guest ≡ s.guest) → Grows t.guest.out (out_of (after (run_of g) n s (Goes b (counted t))))
+      goes_by : (n : ℕ) (b : Bool) (t : State Backed) → (b ≡ true → n ≡ 0 → t.guest ≡ s.guest) → Grows t.guest.out (out_of (after (run_of g) n s (Goes b (counted t))))
       goes_by n false t h = run_grows g n (counted t)
       goes_by zero true t h = subst (λ (out : List ℕ). Grows out s.guest.out) (ap (λ x. x.out) (sym (h refl refl))) (no_more s.guest.out)
       goes_by (suc u) true t h = run_grows g u (counted t)
 
-  stops_grow : (n : ℕ) (b : Bool) (why : Stop) (t : State Tabled) → (b ≡ true → 0 < n) → Grows t.guest.out (out_of (after (run_of g) n s (Stops b why t)))
-  stops_grow n b why t paid = subst (λ (e : End Tabled). Grows t.guest.out (out_of e)) (sym (stops_after g n s t why b paid)) (no_more t.guest.out)
+  stops_grow : (n : ℕ) (b : Bool) (why : Stop) (t : State Backed) → (b ≡ true → 0 < n) → Grows t.guest.out (out_of (after (run_of g) n s (Stops b why t)))
+  stops_grow n b why t paid = subst (λ (e : End Backed). Grows t.guest.out (out_of e)) (sym (stops_after g n s t why b paid)) (no_more t.guest.out)
 
   -- what an instruction leaves is put before what comes later
-  later_grows : (d : Deed Tabled) → IsPaid → ((t : State Tabled) → d ≡ Does t → ((is_legacy s.processor.rip || owed) || nat_le t.processor.rip s.processor.rip) ≡ true → turns ≡ 0 → t.guest ≡ s.guest) → Grows (left_of d).guest.out (out_of (By d))
+  later_grows : (d : Deed Backed) → IsPaid → ((t : State Backed) → d ≡ Does t → ((is_legacy s.processor.rip || owed) || nat_le t.processor.rip s.processor.rip) ≡ true → turns ≡ 0 → t.guest ≡ s.guest) → Grows (left_of d).guest.out (out_of (By d))
   later_grows (Does t) paid h = goes_grows ((is_legacy s.processor.rip || owed) || nat_le t.processor.rip s.processor.rip) t (h t refl)
   later_grows (Halts why t) paid h = stops_grow turns (is_legacy s.processor.rip || owed) why t paid
 
-cut_grows : (held held' : Option (List ℕ)) (so_far a b : List ℕ) → IsCut held so_far held' a → Grows a b → IsCut held so_far held' b
+pub cut_grows : (held held' : Option (List ℕ)) (so_far a b : List ℕ) → IsCut held so_far held' a → Grows a b → IsCut held so_far held' b
 cut_grows held held' so_far a b h k = record {
   front = h.front;
   rest = h.rest ++ k.0;
@@ -95,27 +96,27 @@ unpaid : (b : Bool) (turns : ℕ) → (b ≡ true → 0 < turns) → turns ≡ 0
 unpaid true turns h e = absurd (let k = h refl in omega arith)
 unpaid false turns h e = refl
 
-module _ (cfg outers : ℕ) (bare : Bool) (i : Instr) (len turns : ℕ) (s : State Tabled) where
-  abbrev G : Ground Tabled
+module _ (cfg outers : ℕ) (bare : Bool) (i : Instr) (len turns : ℕ) (s : State Backed) where
+  abbrev G : Ground Backed
   G = ground cfg outers bare
 
   abbrev Next : ℕ
   Next = (s.processor.rip + len) % 2 ^ 64
 
-  abbrev D : Deed Tabled
+  abbrev D : Deed Backed
   D = deed_of G i Next s
 
   abbrev Owed : Bool
   Owed = is_call i || is_return i
 
-  abbrev E : End Tabled
+  abbrev E : End Backed
   E = after (run_of G) turns s (event_of s Owed D)
 
   abbrev Paid : Type 0
   Paid = (is_legacy s.processor.rip || Owed) ≡ true → 0 < turns
 
   -- what leads back without a turn changed nothing but the processor
-  pub taken_back : (t : State Tabled) → 1 ≤ len → len ≤ 15 → Paid → D ≡ Does t → ((is_legacy s.processor.rip || Owed) || nat_le t.processor.rip s.processor.rip) ≡ true → turns ≡ 0
+  pub taken_back : (t : State Backed) → 1 ≤ len → len ≤ 15 → Paid → D ≡ Does t → ((is_legacy s.processor.rip || Owed) || nat_le t.processor.rip s.processor.rip) ≡ true → turns ≡ 0
       → (t.memory ≡ s.memory) × (t.guest ≡ s.guest) × (t.steps ≡ s.steps)
   taken_back t some few paid e b z =
       let free : (is_legacy s.processor.rip || (is_call i || is_return i)) ≡ false = unpaid _ turns paid z in
@@ -132,16 +133,16 @@ module _ (cfg outers : ℕ) (bare : Bool) (i : Instr) (len turns : ℕ) (s : Sta
   advance_stops held so_far new (stop.Strayed a) o some few paid h = (h.0, by_halt G turns s Owed (stop.Strayed a) h.0 D paid h.1, h.2)
   advance_stops held so_far new stop.NoTable o some few paid h = (h.0, by_halt G turns s Owed stop.NoTable h.0 D paid h.1, h.2)
   advance_stops held so_far new stop.OutOfTurns o some few paid h = absurd h
-  advance_stops held so_far new (stop.NoFrames in_use capacity) o some few paid h = cut_nothing held new.held so_far (out_of E) h (subst (λ (l : List ℕ). Grows l (out_of E)) o (by_grows G turns s Owed D (deed_grows G i Next s)))
+  advance_stops held so_far new (stop.NoFrames in_use capacity) o some few paid h = (h.0, by_halt G turns s Owed (stop.NoFrames in_use capacity) h.0 D paid h.1, h.2)
   advance_stops held so_far new stop.ReadFault o some few paid h = cut_nothing held new.held so_far (out_of E) h (subst (λ (l : List ℕ). Grows l (out_of E)) o (by_grows G turns s Owed D (deed_grows G i Next s)))
   advance_stops held so_far new stop.WriteFault o some few paid h =
       cut_grows held new.held so_far (left_of D).guest.out (out_of E) h (later_grows G turns s Owed D paid (λ t e b z. (taken_back t some few paid e b z).1))
 
-  goes_after : (left : ℕ) (b : Bool) (t : State Tabled) → TakesTurn b turns left true → after (run_of G) turns s (Goes b t) ≡ run_of G left t
+  goes_after : (left : ℕ) (b : Bool) (t : State Backed) → TakesTurn b turns left true → after (run_of G) turns s (Goes b t) ≡ run_of G left t
   goes_after left true t h = ap (λ n. after (run_of G) n s (Goes true t)) (let e : turns ≡ suc left = omega arith in e)
   goes_after left false t h = ap (λ n. run_of G n t) (sym h)
 
-  due_same : (owed : Bool) (t u : State Tabled) → owed ≡ (is_legacy s.processor.rip || Owed) → t ≡ u → (owed || nat_le u.processor.rip s.processor.rip) ≡ ((is_legacy s.processor.rip || Owed) || nat_le t.processor.rip s.processor.rip)
+  due_same : (owed : Bool) (t u : State Backed) → owed ≡ (is_legacy s.processor.rip || Owed) → t ≡ u → (owed || nat_le u.processor.rip s.processor.rip) ≡ ((is_legacy s.processor.rip || Owed) || nat_le t.processor.rip s.processor.rip)
   due_same owed t u e k = λ j. e j || nat_le (sym k j).processor.rip s.processor.rip
 
   pub advance_goes : (held : Option (List ℕ)) (so_far : List ℕ) (p q : Parts) (left' held' : Option (List ℕ)) (owed due : Bool) (left n : ℕ) → owed ≡ (is_legacy s.processor.rip || Owed)
@@ -164,10 +165,10 @@ module _ (cfg outers : ℕ) (bare : Bool) (i : Instr) (len turns : ℕ) (s : Sta
   no_turn true left h = (refl, h.0)
   no_turn false left h = absurd h
 
-  out_after : (t : State Tabled) (b : Bool) → b ≡ true → turns ≡ 0 → after (run_of G) turns s (Goes b t) ≡ Out s
+  out_after : (t : State Backed) (b : Bool) → b ≡ true → turns ≡ 0 → after (run_of G) turns s (Goes b t) ≡ Out s
   out_after t b e z = λ j. after (run_of G) (z j) s (Goes (e j) t)
 
-  abbrev restored : Parts → Cpu → BndRegs → List ℕ → List ℕ → State Tabled
+  abbrev restored : Parts → Cpu → BndRegs → List ℕ → List ℕ → State Backed
   restored p cpu b bytes out = record (state_of p bytes out) { processor = processor_of cpu b }
 
   pub advance_out : (held : Option (List ℕ)) (so_far : List ℕ) (p q : Parts) (left' held' : Option (List ℕ)) (owed due : Bool) (left : ℕ) → owed ≡ (is_legacy s.processor.rip || Owed)
@@ -188,15 +189,15 @@ module _ (cfg outers : ℕ) (bare : Bool) (i : Instr) (len turns : ℕ) (s : Sta
           left = h.2.left;
           adds = h.2.adds;
           is = (λ j. record { processor = proc j; memory = sym kept.0 j; guest = sym kept.1 j; steps = sym kept.2 j })
-              ∙ ap (λ (t : State Tabled). record t { processor = processor_of q.cpu q.bnd }) h.2.is
+              ∙ ap (λ (t : State Backed). record t { processor = processor_of q.cpu q.bnd }) h.2.is
               ∙ back h.2.rest (so_far ++ h.2.more);
         },
       )
 
 -- ---- an event
 
-module _ (cfg outers : ℕ) (bare : Bool) (s : State Tabled) where
-  abbrev At : Ground Tabled
+module _ (cfg outers : ℕ) (bare : Bool) (s : State Backed) where
+  abbrev At : Ground Backed
   At = ground cfg outers bare
 
   -- what is found, by the reading
@@ -213,7 +214,7 @@ module _ (cfg outers : ℕ) (bare : Bool) (s : State Tabled) where
   found_here true f i size h = (refl, h)
   found_here false f i size h = absurd (cc)
 
-  pub event_found : (i : Instr) (size : ℕ) → found_at s.memory.bytes s.processor.rip ≡ Ok (i, size) → event At s ≡ event_of s (is_call i || is_return i) (deed_of At i (next_address s.processor.rip size) s)
+  pub event_found : (i : Instr) (size : ℕ) → found_at s.memory.tabled.bytes s.processor.rip ≡ Ok (i, size) → event At s ≡ event_of s (is_call i || is_return i) (deed_of At i (next_address s.processor.rip size) s)
   unfolding event found_at reading_at
   event_found i size h =
       let f = found_here (is_executable s.processor.rip) _ i size h in
@@ -229,7 +230,7 @@ module _ (cfg outers : ℕ) (bare : Bool) (s : State Tabled) where
   lost_here true why r h = lost_read r why h
   lost_here false why r h = let e : stop.Unmapped s.processor.rip ≡ why = cc in ap (λ w. event_of s false (Halts w s)) e
 
-  pub event_lost : (why : Stop) → found_at s.memory.bytes s.processor.rip ≡ Err why → event At s ≡ event_of s false (Halts why s)
+  pub event_lost : (why : Stop) → found_at s.memory.tabled.bytes s.processor.rip ≡ Err why → event At s ≡ event_of s false (Halts why s)
   unfolding event found_at reading_at
   event_lost why h = lost_here (is_executable s.processor.rip) why (reading_at At s) h
 
@@ -240,7 +241,7 @@ module _ (cfg outers : ℕ) (bare : Bool) (s : State Tabled) where
       or_false true k = refl
       or_false false k = k
 
-  pub lost_ends : (turns : ℕ) (held : Option (List ℕ)) (so_far : List ℕ) (new : Around) (legacy : Bool) (why : Stop) → legacy ≡ is_legacy s.processor.rip → (legacy ≡ true → 0 < turns) → IsLost why → found_at s.memory.bytes s.processor.rip ≡ Err why
+  pub lost_ends : (turns : ℕ) (held : Option (List ℕ)) (so_far : List ℕ) (new : Around) (legacy : Bool) (why : Stop) → legacy ≡ is_legacy s.processor.rip → (legacy ≡ true → 0 < turns) → IsLost why → found_at s.memory.tabled.bytes s.processor.rip ≡ Err why
       → IsNow held so_far new s → Ends (run_of At turns s) held so_far new why
   lost_ends turns held so_far new legacy (stop.Unmapped a) e h l f now = (s, run_step At turns s ∙ ap (after (run_of At) turns s) (event_lost _ f) ∙ by_halt At turns s false (stop.Unmapped a) s (Halts (stop.Unmapped a) s) (paid_legacy turns legacy e h) refl, now)
   lost_ends turns held so_far new legacy (stop.Undefined a) e h l f now = (s, run_step At turns s ∙ ap (after (run_of At) turns s) (event_lost _ f) ∙ by_halt At turns s false (stop.Undefined a) s (Halts (stop.Undefined a) s) (paid_legacy turns legacy e h) refl, now)
@@ -256,7 +257,7 @@ module _ (cfg outers : ℕ) (bare : Bool) (s : State Tabled) where
   lost_ends turns held so_far new legacy stop.WriteFault e h l f now = absurd l
 
   -- no turn is left that the event owes
-  out_of_deed : (owed : Bool) (d : Deed Tabled) → (is_legacy s.processor.rip || owed) ≡ true → after (run_of At) 0 s (event_of s owed d) ≡ Out s
+  out_of_deed : (owed : Bool) (d : Deed Backed) → (is_legacy s.processor.rip || owed) ≡ true → after (run_of At) 0 s (event_of s owed d) ≡ Out s
   out_of_deed owed (Does t) h = ap (λ b. after (run_of At) 0 s (Goes (b || nat_le t.processor.rip s.processor.rip) (counted t))) h
   out_of_deed owed (Halts why t) h = ap (λ b. after (run_of At) 0 s (Stops b why t)) h
 
@@ -275,17 +276,17 @@ module _ (cfg outers : ℕ) (bare : Bool) (s : State Tabled) where
   legacy_out turns held so_far new legacy e h z now = (s, ap (λ n. run_of At n s) z ∙ run_step At 0 s ∙ out_of_event (sym e ∙ h), now)
 
   pub owed_out : (turns : ℕ) (held : Option (List ℕ)) (so_far : List ℕ) (new : Around) (i : Instr) (size : ℕ) (owed : Bool) → owed ≡ (is_legacy s.processor.rip || (is_call i || is_return i)) → owed ≡ true → turns ≡ 0
-      → found_at s.memory.bytes s.processor.rip ≡ Ok (i, size) → IsNow held so_far new s → Ends (run_of At turns s) held so_far new stop.OutOfTurns
+      → found_at s.memory.tabled.bytes s.processor.rip ≡ Ok (i, size) → IsNow held so_far new s → Ends (run_of At turns s) held so_far new stop.OutOfTurns
   owed_out turns held so_far new i size owed e h z f now =
       (s, ap (λ n. run_of At n s) z ∙ run_step At 0 s ∙ ap (after (run_of At) 0 s) (event_found i size f) ∙ out_of_deed (is_call i || is_return i) (deed_of At i (next_address s.processor.rip size) s) (sym e ∙ h), now)
 
-  pub run_found : (turns : ℕ) (i : Instr) (size : ℕ) → found_at s.memory.bytes s.processor.rip ≡ Ok (i, size)
+  pub run_found : (turns : ℕ) (i : Instr) (size : ℕ) → found_at s.memory.tabled.bytes s.processor.rip ≡ Ok (i, size)
       → run_of At turns s ≡ after (run_of At) turns s (event_of s (is_call i || is_return i) (deed_of At i (next_address s.processor.rip size) s))
   run_found turns i size f = run_step At turns s ∙ ap (after (run_of At) turns s) (event_found i size f)
 
 -- ---- events one after another
 
-now_then : (held : Option (List ℕ)) (so_far : List ℕ) (mid new : Around) (s t : State Tabled) (h : IsNow held so_far mid s) → IsNow mid.held (so_far ++ h.more) new t → IsNow held so_far new t
+now_then : (held : Option (List ℕ)) (so_far : List ℕ) (mid new : Around) (s t : State Backed) (h : IsNow held so_far mid s) → IsNow mid.held (so_far ++ h.more) new t → IsNow held so_far new t
 now_then held so_far mid new s t h k = record {
   rest = k.rest;
   more = h.more ++ k.more;
@@ -294,7 +295,7 @@ now_then held so_far mid new s t h k = record {
   is = k.is ∙ ap (state_of new.parts k.rest) (append_assoc so_far h.more k.more);
 }
 
-cut_then : (held : Option (List ℕ)) (so_far : List ℕ) (mid : Around) (held' : Option (List ℕ)) (s : State Tabled) (out : List ℕ) (h : IsNow held so_far mid s) → IsCut mid.held (so_far ++ h.more) held' out → IsCut held so_far held' out
+cut_then : (held : Option (List ℕ)) (so_far : List ℕ) (mid : Around) (held' : Option (List ℕ)) (s : State Backed) (out : List ℕ) (h : IsNow held so_far mid s) → IsCut mid.held (so_far ++ h.more) held' out → IsCut held so_far held' out
 cut_then held so_far mid held' s out h k = record {
   front = h.more ++ k.front;
   rest = k.rest;
@@ -302,7 +303,7 @@ cut_then held so_far mid held' s out h k = record {
   splits = k.splits ∙ append_assoc so_far h.more (k.front ++ k.rest) ∙ ap (λ (l : List ℕ). so_far ++ l) (sym (append_assoc h.more k.front k.rest));
 }
 
-module _ (e f : End Tabled) (held : Option (List ℕ)) (so_far : List ℕ) (mid new : Around) (s : State Tabled) (same : e ≡ f) (h : IsNow held so_far mid s) where
+module _ (e f : End Backed) (held : Option (List ℕ)) (so_far : List ℕ) (mid new : Around) (s : State Backed) (same : e ≡ f) (h : IsNow held so_far mid s) where
   pub ends_then : (why : Stop) → Ends f mid.held (so_far ++ h.more) new why → Ends e held so_far new why
   ends_then (stop.Exit code) k = (k.0, same ∙ k.1, now_then held so_far mid new s k.0 h k.2)
   ends_then (stop.Bounds b) k = (k.0, same ∙ k.1, now_then held so_far mid new s k.0 h k.2)
@@ -313,18 +314,18 @@ module _ (e f : End Tabled) (held : Option (List ℕ)) (so_far : List ℕ) (mid 
   ends_then (stop.Strayed a) k = (k.0, same ∙ k.1, now_then held so_far mid new s k.0 h k.2)
   ends_then stop.NoTable k = (k.0, same ∙ k.1, now_then held so_far mid new s k.0 h k.2)
   ends_then stop.OutOfTurns k = (k.0, same ∙ k.1, now_then held so_far mid new s k.0 h k.2)
-  ends_then (stop.NoFrames in_use capacity) k = subst (λ (e : End Tabled). IsCut held so_far new.held (out_of e)) (sym same) (cut_then held so_far mid new.held s (out_of f) h k)
-  ends_then stop.ReadFault k = subst (λ (e : End Tabled). IsCut held so_far new.held (out_of e)) (sym same) (cut_then held so_far mid new.held s (out_of f) h k)
-  ends_then stop.WriteFault k = subst (λ (e : End Tabled). IsCut held so_far new.held (out_of e)) (sym same) (cut_then held so_far mid new.held s (out_of f) h k)
+  ends_then (stop.NoFrames in_use capacity) k = (k.0, same ∙ k.1, now_then held so_far mid new s k.0 h k.2)
+  ends_then stop.ReadFault k = subst (λ (e : End Backed). IsCut held so_far new.held (out_of e)) (sym same) (cut_then held so_far mid new.held s (out_of f) h k)
+  ends_then stop.WriteFault k = subst (λ (e : End Backed). IsCut held so_far new.held (out_of e)) (sym same) (cut_then held so_far mid new.held s (out_of f) h k)
 
 -- a run up to here, and from here to its end or further
-pub moves_end : (e : End Tabled) (cfg cfg' outers : ℕ) (bare : Bool) (held : Option (List ℕ)) (so_far : List ℕ) (left : ℕ) (mid new : Around) (why : Stop) → cfg' ≡ cfg → Moves e (ground cfg outers bare) held so_far left mid None
+pub moves_end : (e : End Backed) (cfg cfg' outers : ℕ) (bare : Bool) (held : Option (List ℕ)) (so_far : List ℕ) (left : ℕ) (mid new : Around) (why : Stop) → cfg' ≡ cfg → Moves e (ground cfg outers bare) held so_far left mid None
     → ((bytes out : List ℕ) → mid.left ≡ Some bytes → Ends (run_of (ground cfg' outers bare) left (state_of mid.parts bytes out)) mid.held out new why) → Ends e held so_far new why
 moves_end e cfg cfg' outers bare held so_far left mid new why c h k =
     ends_then e (run_of (ground cfg' outers bare) left (state_of mid.parts h.2.rest (so_far ++ h.2.more))) held so_far mid new h.0 (h.1 ∙ (λ j. run_of (ground (sym c j) outers bare) left (h.2.is j))) h.2 why
     (k h.2.rest (so_far ++ h.2.more) h.2.left)
 
-pub moves_on : (e : End Tabled) (cfg cfg' outers : ℕ) (bare : Bool) (held : Option (List ℕ)) (so_far : List ℕ) (left left2 : ℕ) (mid new : Around) → cfg' ≡ cfg → Moves e (ground cfg outers bare) held so_far left mid None
+pub moves_on : (e : End Backed) (cfg cfg' outers : ℕ) (bare : Bool) (held : Option (List ℕ)) (so_far : List ℕ) (left left2 : ℕ) (mid new : Around) → cfg' ≡ cfg → Moves e (ground cfg outers bare) held so_far left mid None
     → ((bytes out : List ℕ) → mid.left ≡ Some bytes → Moves (run_of (ground cfg' outers bare) left (state_of mid.parts bytes out)) (ground cfg' outers bare) mid.held out left2 new None) → Moves e (ground cfg outers bare) held so_far left2 new None
 moves_on e cfg cfg' outers bare held so_far left left2 mid new c h k =
     let m = k h.2.rest (so_far ++ h.2.more) h.2.left in
@@ -341,33 +342,3 @@ counts_then why a b c e h = subst (λ n. CountsReads why n c) e h
 
 pub writes_then : (why : Option Stop) (a b c : ℕ) → b ≡ a → CountsWrites why b c → CountsWrites why a c
 writes_then why a b c e h = subst (λ n. CountsWrites why n c) e h
-
-pub finds_by : (few few' : ℕ → ℕ → Type 0) (r : Option Stop) → ((a b : ℕ) → few a b → few' a b) → FindsFew few r → FindsFew few' r
-finds_by few few' None k h = tt
-finds_by few few' (Some (stop.NoFrames in_use capacity)) k h = k in_use capacity h
-finds_by few few' (Some (stop.Exit code)) k h = tt
-finds_by few few' (Some (stop.Bounds b)) k h = tt
-finds_by few few' (Some (stop.Unmapped a)) k h = tt
-finds_by few few' (Some stop.Divide) k h = tt
-finds_by few few' (Some (stop.Undefined a)) k h = tt
-finds_by few few' (Some stop.StackOver) k h = tt
-finds_by few few' (Some stop.OutOfTurns) k h = tt
-finds_by few few' (Some (stop.Strayed a)) k h = tt
-finds_by few few' (Some stop.NoTable) k h = tt
-finds_by few few' (Some stop.ReadFault) k h = tt
-finds_by few few' (Some stop.WriteFault) k h = tt
-
--- a fetch or a reading that stops wants no frames
-pub lost_few : (few : ℕ → ℕ → Type 0) (why : Stop) → IsLost why → FindsFew few (Some why)
-lost_few few (stop.Unmapped a) h = tt
-lost_few few (stop.Undefined a) h = tt
-lost_few few (stop.Exit code) h = absurd h
-lost_few few (stop.Bounds b) h = absurd h
-lost_few few stop.Divide h = absurd h
-lost_few few stop.StackOver h = absurd h
-lost_few few (stop.Strayed a) h = absurd h
-lost_few few stop.NoTable h = absurd h
-lost_few few stop.OutOfTurns h = absurd h
-lost_few few (stop.NoFrames in_use capacity) h = absurd h
-lost_few few stop.ReadFault h = absurd h
-lost_few few stop.WriteFault h = absurd h

@@ -9,3 +9,9 @@ pub mod Advance
 pub mod ReaderLaws
 pub mod PlacingLaws
 pub mod Starting
+pub mod WithoutFrames
+pub mod Capacity
+pub mod InBytes
+pub mod GoesOn
+pub mod CodeKept
+pub mod EnoughFrames

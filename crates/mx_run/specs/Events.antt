@@ -1,5 +1,5 @@
 -- What events and runs leave in a machine's parts, in the source and in the sink.
-use Rattle.std.specs.Prelude.{◌≡◌, ℕ, ◌+◌, ◌-◌, ◌*◌, ◌<◌, ◌==◌, ◌||◌, not, if◌then◌else◌, Bool, true, false, Option, None, Some, Ok, List, [], ◌++◌}
+use Rattle.std.specs.Prelude.{◌≡◌, ℕ, ◌+◌, ◌-◌, ◌*◌, ◌<◌, ◌==◌, ◌||◌, not, if◌then◌else◌, Bool, true, false, Option, None, Some, List, [], ◌++◌}
 use Rattle.mx_base.specs.declared.stops.Stop.{Stop}
 use Rattle.mx_base.specs.declared.stops.Stop.TheVariants as stop
 use Rattle.mx_base.specs.Outside.{Adds, HasRisen}
@@ -8,14 +8,12 @@ use Rattle.x86_forms.specs.declared.instr.Instr.TheVariants.{Syscall}
 use Rattle.x86_forms.specs.Processor.{rax}
 use Rattle.x86_forms.specs.Table.{with_result}
 use Rattle.x86_forms.specs.Watch.{access_strays}
-use Rattle.obj_file.specs.Machine.{Ground, State, Deed, Does, Halts, next_address, service_span}
+use Rattle.obj_file.specs.Machine.{Ground, State, Deed, Does, Halts, service_span}
 use Rattle.obj_file.specs.Runs.{End, Out, Stopped, run_of}
 use Rattle.obj_file.specs.Loaded.{Tabled}
 use Rattle.mx_run.specs.declared.parts.Parts.{Parts}
-use Rattle.mx_run.specs.Parts.{state_of, processor_of, LacksFrames}
-use Rattle.x86_forms.specs.declared.instr.Instr.{Instr}
-use Rattle.paged_memory.specs.Paged.{bytes_of}
-use Rattle.mx_run.specs.Reads.{found_at}
+use Rattle.mx_run.specs.Backed.{Backed, in_bytes}
+use Rattle.mx_run.specs.Parts.{state_of, processor_of}
 
 -- a machine's parts, with what is told of the source and the sink
 pub record Around : Type 0 where
@@ -24,7 +22,7 @@ pub record Around : Type 0 where
   pub held : Option (List ℕ)
 
 -- this is the state now: the source has the state's input left, and the sink what the state's output has more than so far
-pub record IsNow (held : Option (List ℕ)) (so_far : List ℕ) (new : Around) (s : State Tabled) : Type 0 where
+pub record IsNow (held : Option (List ℕ)) (so_far : List ℕ) (new : Around) (s : State Backed) : Type 0 where
   pub rest : List ℕ
   pub more : List ℕ
   pub left : new.left ≡ Some rest
@@ -64,7 +62,7 @@ write_strays bare from number rdi rsi rdx =
 -- ---- an instruction
 
 -- the state that a deed leaves
-abbrev pub left_of : Deed Tabled → State Tabled
+abbrev pub left_of : {X : Type 0} → Deed X → State X
 left_of (Does t) = t
 left_of (Halts why t) = t
 
@@ -73,31 +71,37 @@ abbrev pub PutsNothing : Option (List ℕ) → Option (List ℕ) → Type 0
 PutsNothing held held' = Adds held held' []
 
 -- the instruction was done so, or a front of its output was put
-abbrev pub Acts : Deed Tabled → Option (List ℕ) → List ℕ → Around → Option Stop → Type 0
-Acts d held so_far new None = (t : State Tabled) × (d ≡ Does t) × IsNow held so_far new t
-Acts d held so_far new (Some (stop.NoFrames in_use capacity)) = PutsNothing held new.held
+abbrev pub Acts : Deed Backed → Option (List ℕ) → List ℕ → Around → Option Stop → Type 0
+Acts d held so_far new None = (t : State Backed) × (d ≡ Does t) × IsNow held so_far new t
 Acts d held so_far new (Some stop.ReadFault) = PutsNothing held new.held
 Acts d held so_far new (Some stop.WriteFault) = IsCut held so_far new.held (left_of d).guest.out
 Acts d held so_far new (Some stop.OutOfTurns) = ⊥
-Acts d held so_far new (Some why) = (t : State Tabled) × (d ≡ Halts why t) × IsNow held so_far new t
+Acts d held so_far new (Some why) = (t : State Backed) × (d ≡ Halts why t) × IsNow held so_far new t
 
 -- ---- runs
 
-abbrev pub out_of : End Tabled → List ℕ
+abbrev pub out_of : {X : Type 0} → End X → List ℕ
 out_of (Out last) = last.guest.out
 out_of (Stopped why last) = last.guest.out
 
--- a run ended so; for want of frames, or by a fault of the source or the sink, it was given up, and a front of its output was put
-abbrev pub Ends : End Tabled → Option (List ℕ) → List ℕ → Around → Stop → Type 0
-Ends e held so_far new stop.OutOfTurns = (t : State Tabled) × (e ≡ Out t) × IsNow held so_far new t
-Ends e held so_far new (stop.NoFrames in_use capacity) = IsCut held so_far new.held (out_of e)
+-- a run ended so; by a fault of the source or the sink it was given up, and a front of its output was put
+abbrev pub Ends : End Backed → Option (List ℕ) → List ℕ → Around → Stop → Type 0
+Ends e held so_far new stop.OutOfTurns = (t : State Backed) × (e ≡ Out t) × IsNow held so_far new t
 Ends e held so_far new stop.ReadFault = IsCut held so_far new.held (out_of e)
 Ends e held so_far new stop.WriteFault = IsCut held so_far new.held (out_of e)
-Ends e held so_far new why = (t : State Tabled) × (e ≡ Stopped why t) × IsNow held so_far new t
+Ends e held so_far new why = (t : State Backed) × (e ≡ Stopped why t) × IsNow held so_far new t
+
+-- the same for a run that needs no frames: for want of them it was given up too
+abbrev pub EndsInBytes : End Tabled → Option (List ℕ) → List ℕ → Around → Stop → Type 0
+EndsInBytes e held so_far new stop.OutOfTurns = (t : State Backed) × (e ≡ Out (in_bytes t)) × IsNow held so_far new t
+EndsInBytes e held so_far new (stop.NoFrames in_use capacity) = IsCut held so_far new.held (out_of e)
+EndsInBytes e held so_far new stop.ReadFault = IsCut held so_far new.held (out_of e)
+EndsInBytes e held so_far new stop.WriteFault = IsCut held so_far new.held (out_of e)
+EndsInBytes e held so_far new why = (t : State Backed) × (e ≡ Stopped why (in_bytes t)) × IsNow held so_far new t
 
 -- a run goes on from the state now, or it ends
-abbrev pub Moves : End Tabled → Ground Tabled → Option (List ℕ) → List ℕ → ℕ → Around → Option Stop → Type 0
-Moves e g held so_far left new None = (t : State Tabled) × (e ≡ run_of g left t) × IsNow held so_far new t
+abbrev pub Moves : End Backed → Ground Backed → Option (List ℕ) → List ℕ → ℕ → Around → Option Stop → Type 0
+Moves e g held so_far left new None = (t : State Backed) × (e ≡ run_of g left t) × IsNow held so_far new t
 Moves e g held so_far left new (Some why) = Ends e held so_far new why
 
 -- turns left and code ahead, in one number
@@ -136,20 +140,3 @@ CountsReads answer old new = new ≡ old
 abbrev pub CountsWrites : Option Stop → ℕ → ℕ → Type 0
 CountsWrites (Some stop.WriteFault) old new = HasRisen old new
 CountsWrites answer old new = new ≡ old
-
--- what is known where frames were too few, by both numbers
-abbrev pub FindsFew : (ℕ → ℕ → Type 0) → Option Stop → Type 0
-FindsFew few (Some (stop.NoFrames in_use capacity)) = few in_use capacity
-FindsFew few answer = Unit {0}
-
--- the instruction that a machine with these parts comes to asks for a write that finds too few free frames
-abbrev pub LacksAt : Parts → ℕ → ℕ → Type 0
-LacksAt p in_use capacity = (i : Instr) × (size : ℕ) × (found_at (bytes_of p.memory) p.cpu.rip ≡ Ok (i, size)) × LacksFrames p i (next_address p.cpu.rip size) in_use capacity
-
--- a run came to parts of which that is so, where the source tells what is left. These parts are tied to the run by its state, so by the
--- bytes of their memory; how many frames that memory has, and which of its pages are touched, no clause ties to the machine's own
-pub record GivesUp (g : Ground Tabled) (turns : ℕ) (left held : Option (List ℕ)) (old : Parts) (in_use capacity : ℕ) : Type 0 where
-  pub at : Around
-  pub turns_left : ℕ
-  pub lacks : LacksAt at.parts in_use capacity
-  pub reached : (bytes so_far : List ℕ) → left ≡ Some bytes → Moves (run_of g turns (state_of old bytes so_far)) g held so_far turns_left at None

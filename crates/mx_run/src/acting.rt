@@ -4,8 +4,11 @@ ghost use Rattle.x86_forms.specs.Accesses.{accesses, reach_of};
 ghost use Rattle.x86_forms.specs.Validity.{valid_of};
 ghost use Rattle.x86_forms.specs.Watch.{control_strays};
 ghost use Rattle.obj_file.specs.Machine.{is_call, is_return, is_service, unless_bare, reach_strays as strays_of, with_service_of, executed, deed_of};
-ghost use Rattle.mx_run.specs.Parts.{ground, state_of, LacksFrames};
-ghost use Rattle.mx_run.specs.Events.{Acts, CountsReads, CountsWrites, FindsFew};
+ghost use Rattle.paged_memory.specs.Paged.{bytes_of};
+ghost use Rattle.mx_run.specs.Backed.{ground};
+ghost use Rattle.mx_run.specs.Lines.{KeepsCode};
+ghost use Rattle.mx_run.specs.Parts.{state_of};
+ghost use Rattle.mx_run.specs.Events.{Acts, CountsReads, CountsWrites};
 
 use crate::executing::execute;
 use crate::parts::{Doors, Parts};
@@ -73,15 +76,16 @@ fn execute_served<I: Source, O: Sink>(
     ensures acts { (bytes so_far : List ℕ) → I.left input.old ≡ Some bytes → Acts (with_service_of (ground p.old.bnd.cfg doors.outers doors.bare) i.now (state_of p.old bytes so_far) (executed (ground p.old.bnd.cfg doors.outers doors.bare) i.now ((p.old.cpu.rip + len) % 2 ^ 64) (state_of p.old bytes so_far))) (O.held out.old) so_far record { parts = p.new; left = I.left input.new; held = O.held out.new } result }
     ensures reads { CountsReads result (I.faults input.old) (I.faults input.new) }
     ensures writes { CountsWrites result (O.faults out.old) (O.faults out.new) }
-    ensures few { FindsFew (LacksFrames p.old i.now ((p.old.cpu.rip + len) % 2 ^ 64)) result }
     ensures cfg { p.new.bnd.cfg ≡ p.old.bnd.cfg }
+    ensures frames { p.new.memory.capacity ≡ p.old.memory.capacity }
+    ensures code { KeepsCode (bytes_of p.old.memory) (bytes_of p.new.memory) }
 {
+    if !asks(i) {
+        return execute(p, i, len);
+    }
     let before = p.cpu;
     if let Some(stop) = execute(p, i, len) {
         return Some(stop);
-    }
-    if !asks(i) {
-        return None;
     }
     match serve_guest(p, doors.bare, before.rip, input, out) {
         None => None,
@@ -106,8 +110,9 @@ pub fn act<I: Source, O: Sink>(
     ensures acts { (bytes so_far : List ℕ) → I.left input.old ≡ Some bytes → Acts (deed_of (ground p.old.bnd.cfg doors.outers doors.bare) i.now ((p.old.cpu.rip + len) % 2 ^ 64) (state_of p.old bytes so_far)) (O.held out.old) so_far record { parts = p.new; left = I.left input.new; held = O.held out.new } result }
     ensures reads { CountsReads result (I.faults input.old) (I.faults input.new) }
     ensures writes { CountsWrites result (O.faults out.old) (O.faults out.new) }
-    ensures few { FindsFew (LacksFrames p.old i.now ((p.old.cpu.rip + len) % 2 ^ 64)) result }
     ensures cfg { p.new.bnd.cfg ≡ p.old.bnd.cfg }
+    ensures frames { p.new.memory.capacity ≡ p.old.memory.capacity }
+    ensures code { KeepsCode (bytes_of p.old.memory) (bytes_of p.new.memory) }
 {
     let from = p.cpu.rip;
     if let Some(x) = judge_accesses(p, doors.bare, i, from.wrapping_add(u64::from(len))) {

@@ -4,11 +4,14 @@ ghost use Rattle.x86_forms.specs.Validity.{valid_of};
 ghost use Rattle.x86_forms.specs.Watch.{is_legacy};
 ghost use Rattle.obj_file.specs.Machine.{is_call, is_return, deed_of, event_of};
 ghost use Rattle.obj_file.specs.Runs.{after, run_of};
-ghost use Rattle.mx_run.specs.Parts.{ground, state_of, LacksFrames};
-ghost use Rattle.mx_run.specs.Events.{Moves, Falls, Ends, TakesTurn, IsLeft, CountsReads, CountsWrites, FindsFew, LacksAt, GivesUp};
+ghost use Rattle.paged_memory.specs.Paged.{bytes_of};
+ghost use Rattle.mx_run.specs.Backed.{ground};
+ghost use Rattle.mx_run.specs.Lines.{AreLines, KeepsCode};
+ghost use Rattle.mx_run.specs.Parts.{state_of};
+ghost use Rattle.mx_run.specs.Events.{Moves, Falls, Ends, TakesTurn, IsLeft, CountsReads, CountsWrites};
 
 use crate::acting::{act, calls, returns};
-use crate::finding::find;
+use crate::lines::{Line, ready};
 use crate::parts::{Doors, Parts};
 use mx_base::{Sink, Source, Stop};
 use x86_forms::Instr;
@@ -41,6 +44,16 @@ fn is_left(owed: bool, turns: u64) -> bool
     !owed || turns > 0
 }
 
+/// Takes a turn, of which one is left, if one is due.
+fn pay(turns: &mut u64, due: bool)
+    requires { 0 < turns.old }
+    ensures { TakesTurn due turns.old turns.new true }
+{
+    if due {
+        *turns -= 1;
+    }
+}
+
 /// Takes a turn if one is due. False where none is left.
 fn take_turn(turns: &mut u64, due: bool) -> bool
     ensures { TakesTurn due turns.old turns.new result }
@@ -55,8 +68,79 @@ fn take_turn(turns: &mut u64, due: bool) -> bool
     true
 }
 
+/// The event of an instruction that was found, where a turn is left, whether it is owed or not.
+fn advance_paid<I: Source, O: Sink>(
+    p: &mut Parts,
+    doors: Doors,
+    i: &Instr,
+    len: u8,
+    owed: bool,
+    turns: &mut u64,
+    input: &mut I,
+    out: &mut O,
+) -> Option<Stop>
+    requires valid { IsTrue (valid_of i.now) }
+    requires some { 1 ≤ len }
+    requires short { len ≤ 15 }
+    requires owed { owed ≡ (is_legacy p.old.cpu.rip || (is_call i.now || is_return i.now)) }
+    requires left { 0 < turns.old }
+    ensures moves { (bytes so_far : List ℕ) → I.left input.old ≡ Some bytes → Moves (after (run_of (ground p.old.bnd.cfg doors.outers doors.bare)) turns.old (state_of p.old bytes so_far) (event_of (state_of p.old bytes so_far) (is_call i.now || is_return i.now) (deed_of (ground p.old.bnd.cfg doors.outers doors.bare) i.now ((p.old.cpu.rip + len) % 2 ^ 64) (state_of p.old bytes so_far)))) (ground p.old.bnd.cfg doors.outers doors.bare) (O.held out.old) so_far turns.new record { parts = p.new; left = I.left input.new; held = O.held out.new } result }
+    ensures falls { Falls turns.old p.old.cpu.rip turns.new p.new.cpu.rip result }
+    ensures reads { CountsReads result (I.faults input.old) (I.faults input.new) }
+    ensures writes { CountsWrites result (O.faults out.old) (O.faults out.new) }
+    ensures cfg { p.new.bnd.cfg ≡ p.old.bnd.cfg }
+    ensures frames { p.new.memory.capacity ≡ p.old.memory.capacity }
+    ensures code { KeepsCode (bytes_of p.old.memory) (bytes_of p.new.memory) }
+{
+    let from = p.cpu.rip;
+    if let Some(stop) = act(p, doors, i, len, input, out) {
+        return Some(stop);
+    }
+    pay(turns, is_due(owed, p.cpu.rip, from));
+    p.steps = p.steps.saturating_add(1);
+    None
+}
+
 /// The event of an instruction that was found, where the turn that it owes whatever it leads to is left. An instruction that leads
 /// back without a turn left is taken back.
+fn advance_unpaid<I: Source, O: Sink>(
+    p: &mut Parts,
+    doors: Doors,
+    i: &Instr,
+    len: u8,
+    owed: bool,
+    turns: &mut u64,
+    input: &mut I,
+    out: &mut O,
+) -> Option<Stop>
+    requires valid { IsTrue (valid_of i.now) }
+    requires some { 1 ≤ len }
+    requires short { len ≤ 15 }
+    requires owed { owed ≡ (is_legacy p.old.cpu.rip || (is_call i.now || is_return i.now)) }
+    requires left { owed ≡ true → 0 < turns.old }
+    ensures moves { (bytes so_far : List ℕ) → I.left input.old ≡ Some bytes → Moves (after (run_of (ground p.old.bnd.cfg doors.outers doors.bare)) turns.old (state_of p.old bytes so_far) (event_of (state_of p.old bytes so_far) (is_call i.now || is_return i.now) (deed_of (ground p.old.bnd.cfg doors.outers doors.bare) i.now ((p.old.cpu.rip + len) % 2 ^ 64) (state_of p.old bytes so_far)))) (ground p.old.bnd.cfg doors.outers doors.bare) (O.held out.old) so_far turns.new record { parts = p.new; left = I.left input.new; held = O.held out.new } result }
+    ensures falls { Falls turns.old p.old.cpu.rip turns.new p.new.cpu.rip result }
+    ensures reads { CountsReads result (I.faults input.old) (I.faults input.new) }
+    ensures writes { CountsWrites result (O.faults out.old) (O.faults out.new) }
+    ensures cfg { p.new.bnd.cfg ≡ p.old.bnd.cfg }
+    ensures frames { p.new.memory.capacity ≡ p.old.memory.capacity }
+    ensures code { KeepsCode (bytes_of p.old.memory) (bytes_of p.new.memory) }
+{
+    let before = p.cpu;
+    let bounds = p.bnd;
+    if let Some(stop) = act(p, doors, i, len, input, out) {
+        return Some(stop);
+    }
+    if !take_turn(turns, is_due(owed, p.cpu.rip, before.rip)) {
+        p.cpu = before;
+        p.bnd = bounds;
+        return Some(Stop::OutOfTurns);
+    }
+    p.steps = p.steps.saturating_add(1);
+    None
+}
+
+/// The event of an instruction that was found, where the turn that it owes whatever it leads to is left.
 fn advance<I: Source, O: Sink>(
     p: &mut Parts,
     doors: Doors,
@@ -76,70 +160,70 @@ fn advance<I: Source, O: Sink>(
     ensures falls { Falls turns.old p.old.cpu.rip turns.new p.new.cpu.rip result }
     ensures reads { CountsReads result (I.faults input.old) (I.faults input.new) }
     ensures writes { CountsWrites result (O.faults out.old) (O.faults out.new) }
-    ensures few { FindsFew (LacksFrames p.old i.now ((p.old.cpu.rip + len) % 2 ^ 64)) result }
     ensures cfg { p.new.bnd.cfg ≡ p.old.bnd.cfg }
+    ensures frames { p.new.memory.capacity ≡ p.old.memory.capacity }
+    ensures code { KeepsCode (bytes_of p.old.memory) (bytes_of p.new.memory) }
 {
-    let before = p.cpu;
-    let bounds = p.bnd;
-    if let Some(stop) = act(p, doors, i, len, input, out) {
-        return Some(stop);
+    if *turns > 0 {
+        advance_paid(p, doors, i, len, owed, turns, input, out)
+    } else {
+        advance_unpaid(p, doors, i, len, owed, turns, input, out)
     }
-    if !take_turn(turns, is_due(owed, p.cpu.rip, before.rip)) {
-        p.cpu = before;
-        p.bnd = bounds;
-        return Some(Stop::OutOfTurns);
-    }
-    p.steps = p.steps.saturating_add(1);
-    None
 }
 
 /// One event, if the turn that it takes is left.
 fn event<I: Source, O: Sink>(
     p: &mut Parts,
+    lines: &mut [Line],
     doors: Doors,
     turns: &mut u64,
     input: &mut I,
     out: &mut O,
 ) -> Option<Stop>
+    requires lines { AreLines (bytes_of p.old.memory) lines.old }
     ensures moves { (bytes so_far : List ℕ) → I.left input.old ≡ Some bytes → Moves (run_of (ground p.old.bnd.cfg doors.outers doors.bare) turns.old (state_of p.old bytes so_far)) (ground p.old.bnd.cfg doors.outers doors.bare) (O.held out.old) so_far turns.new record { parts = p.new; left = I.left input.new; held = O.held out.new } result }
     ensures falls { Falls turns.old p.old.cpu.rip turns.new p.new.cpu.rip result }
     ensures reads { CountsReads result (I.faults input.old) (I.faults input.new) }
     ensures writes { CountsWrites result (O.faults out.old) (O.faults out.new) }
-    ensures few { FindsFew (LacksAt p.old) result }
     ensures cfg { p.new.bnd.cfg ≡ p.old.bnd.cfg }
+    ensures frames { p.new.memory.capacity ≡ p.old.memory.capacity }
+    ensures lines { AreLines (bytes_of p.new.memory) lines.new }
 {
     let legacy = is_of_legacy(p.cpu.rip);
     if !is_left(legacy, *turns) {
         return Some(Stop::OutOfTurns);
     }
-    let (i, len) = match find(&p.memory, p.cpu.rip) {
-        Ok(found) => found,
-        Err(stop) => return Some(stop),
-    };
-    let owed = owes(legacy, &i);
+    if let Some(stop) = ready(lines, &p.memory, p.cpu.rip) {
+        return Some(stop);
+    }
+    let line = &lines[(p.cpu.rip % 16_384) as usize];
+    let owed = owes(legacy, &line.instr);
     if !is_left(owed, *turns) {
         return Some(Stop::OutOfTurns);
     }
-    advance(p, doors, &i, len, owed, turns, input, out)
+    advance(p, doors, &line.instr, line.len, owed, turns, input, out)
 }
 
 /// Events one after another, to the stop.
 pub fn run_events<I: Source, O: Sink>(
     p: &mut Parts,
+    lines: &mut [Line],
     doors: Doors,
     turns: u64,
     input: &mut I,
     out: &mut O,
 ) -> Stop
+    requires lines { AreLines (bytes_of p.old.memory) lines.old }
     ensures ends { (bytes so_far : List ℕ) → I.left input.old ≡ Some bytes → Ends (run_of (ground p.old.bnd.cfg doors.outers doors.bare) turns (state_of p.old bytes so_far)) (O.held out.old) so_far record { parts = p.new; left = I.left input.new; held = O.held out.new } result }
     ensures reads { CountsReads (Some result) (I.faults input.old) (I.faults input.new) }
     ensures writes { CountsWrites (Some result) (O.faults out.old) (O.faults out.new) }
-    ensures few { FindsFew (GivesUp (ground p.old.bnd.cfg doors.outers doors.bare) turns (I.left input.old) (O.held out.old) p.old) (Some result) }
     ensures cfg { p.new.bnd.cfg ≡ p.old.bnd.cfg }
+    ensures frames { p.new.memory.capacity ≡ p.old.memory.capacity }
+    ensures lines { AreLines (bytes_of p.new.memory) lines.new }
 {
     let mut left = turns;
     loop {
-        if let Some(stop) = event(p, doors, &mut left, input, out) {
+        if let Some(stop) = event(p, lines, doors, &mut left, input, out) {
             return stop;
         }
     }

@@ -5,7 +5,10 @@ ghost use Rattle.x86_core.specs.Steps.{is_plain};
 ghost use Rattle.mpx_core.specs.Steps.{is_bounds};
 ghost use Rattle.br_runtime.specs.Serving.{is_directory_entry};
 ghost use Rattle.obj_file.specs.Machine.{executed};
-ghost use Rattle.mx_run.specs.Parts.{ground, state_of, processor_of, core_stop, memory_stop, bounds_stop, once, LacksFrames, WalkLacks, MakesTable, Executes};
+ghost use Rattle.paged_memory.specs.Paged.{bytes_of};
+ghost use Rattle.mx_run.specs.Backed.{ground};
+ghost use Rattle.mx_run.specs.Lines.{KeepsCode};
+ghost use Rattle.mx_run.specs.Parts.{state_of, core_stop, memory_stop, bounds_stop, once, MakesTable, Executes};
 
 use crate::parts::Parts;
 use br_runtime::{Serve, Tables, serve};
@@ -54,7 +57,7 @@ fn stop_of_bounds(from: u64, stop: BndStop) -> Stop
 fn execute_plain(p: &mut Parts, i: &Instr, len: u8) -> Option<Stop>
     requires valid { IsTrue (valid_of i.now) }
     requires plain { IsTrue (is_plain i.now) }
-    ensures does { (outers : ℕ) (bare : Bool) (input out : List ℕ) → Executes (executed (ground p.old.bnd.cfg outers bare) i.now ((p.old.cpu.rip + len) % 2 ^ 64) (state_of p.old input out)) (LacksFrames p.old i.now ((p.old.cpu.rip + len) % 2 ^ 64)) p.new input out result }
+    ensures does { (outers : ℕ) (bare : Bool) (input out : List ℕ) → Executes (executed (ground p.old.bnd.cfg outers bare) i.now ((p.old.cpu.rip + len) % 2 ^ 64) (state_of p.old input out)) p.new input out result }
     ensures cfg { p.new.bnd.cfg ≡ p.old.bnd.cfg }
 {
     let from = p.cpu.rip;
@@ -87,7 +90,7 @@ fn make_table(m: &mut Memory, t: &mut Tables, entry: u64) -> Option<Stop>
 fn execute_again(p: &mut Parts, i: &Instr, next: u64) -> Option<Stop>
     requires valid { IsTrue (valid_of i.now) }
     requires bounds { IsTrue (is_bounds i.now) }
-    ensures does { (outers : ℕ) (bare : Bool) (input out : List ℕ) → Executes (once (ground p.old.bnd.cfg outers bare) i.now next (state_of p.old input out)) (WalkLacks p.old.bnd.cfg (processor_of p.old.cpu p.old.bnd) i.now next p.old.memory) p.new input out result }
+    ensures does { (outers : ℕ) (bare : Bool) (input out : List ℕ) → Executes (once (ground p.old.bnd.cfg outers bare) i.now next (state_of p.old input out)) p.new input out result }
     ensures cfg { p.new.bnd.cfg ≡ p.old.bnd.cfg }
 {
     match mpx_core::step(&mut p.bnd, &p.cpu.regs, next, &mut p.memory, i) {
@@ -104,7 +107,7 @@ fn execute_again(p: &mut Parts, i: &Instr, next: u64) -> Option<Stop>
 fn execute_bounds(p: &mut Parts, i: &Instr, next: u64) -> Option<Stop>
     requires valid { IsTrue (valid_of i.now) }
     requires bounds { IsTrue (is_bounds i.now) }
-    ensures does { (outers : ℕ) (bare : Bool) (input out : List ℕ) → Executes (executed (ground p.old.bnd.cfg outers bare) i.now next (state_of p.old input out)) (LacksFrames p.old i.now next) p.new input out result }
+    ensures does { (outers : ℕ) (bare : Bool) (input out : List ℕ) → Executes (executed (ground p.old.bnd.cfg outers bare) i.now next (state_of p.old input out)) p.new input out result }
     ensures cfg { p.new.bnd.cfg ≡ p.old.bnd.cfg }
 {
     match mpx_core::step(&mut p.bnd, &p.cpu.regs, next, &mut p.memory, i) {
@@ -131,8 +134,10 @@ fn execute_bounds(p: &mut Parts, i: &Instr, next: u64) -> Option<Stop>
 /// One instruction of `len` bytes.
 pub fn execute(p: &mut Parts, i: &Instr, len: u8) -> Option<Stop>
     requires valid { IsTrue (valid_of i.now) }
-    ensures does { (outers : ℕ) (bare : Bool) (input out : List ℕ) → Executes (executed (ground p.old.bnd.cfg outers bare) i.now ((p.old.cpu.rip + len) % 2 ^ 64) (state_of p.old input out)) (LacksFrames p.old i.now ((p.old.cpu.rip + len) % 2 ^ 64)) p.new input out result }
+    ensures does { (outers : ℕ) (bare : Bool) (input out : List ℕ) → Executes (executed (ground p.old.bnd.cfg outers bare) i.now ((p.old.cpu.rip + len) % 2 ^ 64) (state_of p.old input out)) p.new input out result }
     ensures cfg { p.new.bnd.cfg ≡ p.old.bnd.cfg }
+    ensures frames { p.new.memory.capacity ≡ p.old.memory.capacity }
+    ensures code { KeepsCode (bytes_of p.old.memory) (bytes_of p.new.memory) }
 {
     if bounds(i) {
         let next = p.cpu.rip.wrapping_add(u64::from(len));

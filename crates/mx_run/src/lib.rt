@@ -3,20 +3,23 @@
 #![tactic(auto)]
 
 mod acting;
+mod calls;
 mod config;
 mod event;
 mod executing;
 mod finding;
 mod laws;
+mod lines;
 mod machine;
 mod parts;
 mod placing;
 mod serving;
-#[cfg(test)]
-mod tests;
 mod watch;
 
 pub use config::{Config, MakeFault};
-pub use laws::instructions_are_read;
+pub use laws::{
+    frames_decide_nothing_else, instructions_are_read, machines_run_on, output_only_grows,
+    runs_need_frames_for_their_pages,
+};
 pub use machine::Machine;
 pub use mx_base::{Breach, Stop};

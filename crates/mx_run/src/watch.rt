@@ -1,21 +1,29 @@
 //! The verdicts of the watch on all the accesses of an instruction.
-ghost use Rattle.std.specs.Prelude.{◌≡◌};
+ghost use Rattle.std.specs.Prelude.{◌≡◌, Some};
 ghost use Rattle.obj_file.specs.Machine.{span_strays as strays_in, is_read, reach_strays as strays_of};
 
 use paged_memory::first_unmapped;
 use seal_watch::{Verdict, judge};
 use x86_forms::{Instr, Reach, Span};
 
+/// Where an access that there is strays.
+fn strays(i: &Instr, from: u64, s: Span) -> Option<u64>
+    ensures { result ≡ strays_in i.now from (Some s) }
+{
+    match judge(i, from, s) {
+        Verdict::Fine => None,
+        Verdict::Strayed(x) => Some(x),
+    }
+}
+
 /// Where an access of the instruction at address `from` strays.
+#[inline(always)]
 pub fn span_strays(i: &Instr, from: u64, s: Option<Span>) -> Option<u64>
     ensures { result ≡ strays_in i.now from s }
 {
     match s {
         None => None,
-        Some(s) => match judge(i, from, s) {
-            Verdict::Fine => None,
-            Verdict::Strayed(x) => Some(x),
-        },
+        Some(s) => strays(i, from, s),
     }
 }
 

@@ -19,7 +19,7 @@ use Rattle.x86_forms.specs.Table.{row, with_result}
 use Rattle.x86_forms.specs.Validity.{valid_of}
 use Rattle.x86_forms.specs.Watch.{is_legacy, access_strays, control_strays}
 use Rattle.x86_forms.proofs.TableAccesses.{asks_row}
-use Rattle.obj_file.specs.Machine.{Reading, Is, Part, Neither, Refusal, Misses, Invalid, State, Deed, Does, Halts, fault_stop, refusal_stop, left_by, ended, restarted, served_or_ended, executed, unless_bare, reach_strays, unless_strayed, service_span, as_unmapped, strayed_or, bytes_judged, answered, rsi, rdi, asked, with_service, is_call, is_return, control_judged, with_service_of, deed_of, fetched_size, code_end, reading_at, next_address, deed_by, owes, event_of, event_by, event}
+use Rattle.obj_file.specs.Machine.{Reading, Is, Part, Neither, Refusal, Misses, Invalid, Lacks, State, served_or_invalid, Deed, Does, Halts, fault_stop, refusal_stop, left_by, ended, restarted, served_or_ended, executed, unless_bare, reach_strays, unless_strayed, service_span, as_unmapped, strayed_or, bytes_judged, answered, rsi, rdi, asked, with_service, is_call, is_return, control_judged, with_service_of, deed_of, fetched_size, code_end, reading_at, next_address, deed_by, owes, event_of, event_by, event}
 use Rattle.obj_file.specs.Loaded.{Tabled, Mode, configuration, tabled_store, table_made, ground_of}
 use Rattle.obj_file.specs.Stored.{Stored, stored_store, megabyte_touched, stored_ground}
 use Rattle.obj_file.specs.StoreLaw.{HoldsWords, StandsIn, StatesAlike, EventsAlike, ReadsValid, StaysOut, read_by, service_reads, ReadingStaysOut, EventStaysOut, megabyte_entry_at, is_of_bounds}
@@ -69,20 +69,20 @@ module _ (reads : List ℕ → Reading) (outers : ℕ) (mode : Mode) where
     row_alike c x z e words h = runs_alike mode.preserve c words (row i next c) (accesses i next c.regs) x z (asks_row i next c)
         (subst (λ (regs : ℕ → ℕ). Clear (accesses i next regs)) (sym e) clear) (row_words i next c ok small words) h
 
-    served_so : (c : Processor) (x : Tabled) (z : Stored) (o : Option Tabled) (p : Option Stored) → c.regs ≡ s.processor.regs → HoldsWords c → StandsIn x z → ServedAlike o p
-        → DeedsAlike (restarted (ground_of reads outers mode) i next s c x o) (restarted (stored_ground reads outers mode) i next (over s y) c z p)
-    served_so c x z None None e words h both = (refl, left_alike s y c c x z refl h words)
-    served_so c x z None (Some q) e words h both = absurd both
-    served_so c x z (Some o) None e words h both = absurd both
-    served_so c x z (Some o) (Some q) e words h both = ended_alike s y c.regs _ _ (row_alike c o q e words both)
+    served_so : (c : Processor) (x : Tabled) (z : Stored) (e f : ℕ) (o : Option Tabled) (p : Option Stored) → c.regs ≡ s.processor.regs → HoldsWords c → StandsIn x z → ServedAlike o p
+        → DeedsAlike (restarted (ground_of reads outers mode) i next s c x (served_or_invalid e o)) (restarted (stored_ground reads outers mode) i next (over s y) c z (served_or_invalid f p))
+    served_so c x z e f None None same words h both = (refl, left_alike s y c c x z refl h words)
+    served_so c x z e f None (Some q) same words h both = absurd both
+    served_so c x z e f (Some o) None same words h both = absurd both
+    served_so c x z e f (Some o) (Some q) same words h both = ended_alike s y c.regs _ _ (row_alike c o q same words both)
 
     restarted_alike : (a b : Processor) (x : Tabled) (z : Stored) (e f : ℕ) → a ≡ b → a.regs ≡ s.processor.regs → HoldsWords a → StandsIn x z → e ≡ f → IsWanting z (Invalid e)
-        → DeedsAlike (restarted (ground_of reads outers mode) i next s a x (table_made x e)) (restarted (stored_ground reads outers mode) i next (over s y) b z (megabyte_touched z f))
+        → DeedsAlike (restarted (ground_of reads outers mode) i next s a x (served_or_invalid e (table_made x e))) (restarted (stored_ground reads outers mode) i next (over s y) b z (served_or_invalid f (megabyte_touched z f)))
     restarted_alike a b x z e f same regs words h also new =
         let place : f ≡ megabyte_entry_at new.0 = sym also ∙ new.3 in
         let there : ServedAlike (table_made x e) (megabyte_touched z f) = subst (λ (n : ℕ). ServedAlike (table_made x n) (megabyte_touched z f)) (sym new.3) (subst (λ (n : ℕ). ServedAlike (table_made x (megabyte_entry_at new.0)) (megabyte_touched z n)) (sym place) (serves_alike x z new.0 h new.1 new.2)) in
-        subst (λ (c : Processor). DeedsAlike (restarted (ground_of reads outers mode) i next s a x (table_made x e)) (restarted (stored_ground reads outers mode) i next (over s y) c z (megabyte_touched z f))) same
-        (served_so a x z (table_made x e) (megabyte_touched z f) regs words h there)
+        subst (λ (c : Processor). DeedsAlike (restarted (ground_of reads outers mode) i next s a x (served_or_invalid e (table_made x e))) (restarted (stored_ground reads outers mode) i next (over s y) c z (served_or_invalid f (megabyte_touched z f)))) same
+        (served_so a x z e f (table_made x e) (megabyte_touched z f) regs words h there)
 
     served_alike : (o : Outcome Tabled Refusal) (p : Outcome Stored Refusal) → OutcomesAlike s.processor.regs o p
         → DeedsAlike (served_or_ended (ground_of reads outers mode) i next s o) (served_or_ended (stored_ground reads outers mode) i next (over s y) p)
@@ -90,8 +90,13 @@ module _ (reads : List ℕ → Reading) (outers : ℕ) (mode : Mode) where
     served_alike (Failed f a x) (Failed g b z) h = ended_alike s y s.processor.regs (Failed f a x) (Failed g b z) h
     served_alike (Refused (Misses m) a x) (Refused (Misses n) b z) h = ended_alike s y s.processor.regs (Refused (Misses m) a x) (Refused (Misses n) b z) h
     served_alike (Refused (Invalid e) a x) (Refused (Invalid f) b z) h = let same : e ≡ f = cc (h.0) in restarted_alike a b x z e f h.1 h.5 h.3 h.2 same h.4
+    served_alike (Refused (Lacks u m) a x) (Refused (Lacks v n) b z) h = ended_alike s y s.processor.regs (Refused (Lacks u m) a x) (Refused (Lacks v n) b z) h
     served_alike (Refused (Misses m) a x) (Refused (Invalid f) b z) h = let no = h.0 in absurd (cc)
+    served_alike (Refused (Misses m) a x) (Refused (Lacks v n) b z) h = let no = h.0 in absurd (cc)
     served_alike (Refused (Invalid e) a x) (Refused (Misses n) b z) h = let no = h.0 in absurd (cc)
+    served_alike (Refused (Invalid e) a x) (Refused (Lacks v n) b z) h = let no = h.0 in absurd (cc)
+    served_alike (Refused (Lacks u m) a x) (Refused (Misses n) b z) h = let no = h.0 in absurd (cc)
+    served_alike (Refused (Lacks u m) a x) (Refused (Invalid f) b z) h = let no = h.0 in absurd (cc)
     served_alike (Done a x) (Failed g b z) h = absurd h
     served_alike (Done a x) (Refused p b z) h = absurd h
     served_alike (Failed f a x) (Done b z) h = absurd h

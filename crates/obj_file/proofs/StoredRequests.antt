@@ -13,7 +13,7 @@ use Rattle.mx_base.specs.Regions.{is_readable, is_writable}
 use Rattle.mx_base.specs.Walk.{Beyond, Invalid as NoTable, Stands, walk, walk_by, walk_end, directory_entry_at, table_entry_at, entry_in, with_entry, entry_for, entry_size, bounds_in, next_entry, with_next_table}
 use Rattle.mx_base.proofs.MemoryLemmas.{number_at-same, first_refused-all, AreBytes-with_number}
 use Rattle.x86_forms.specs.declared.spans.Span.{Span}
-use Rattle.obj_file.specs.Machine.{Refusal, Misses, Invalid}
+use Rattle.obj_file.specs.Machine.{Refusal, Misses, Invalid, Lacks}
 use Rattle.obj_file.specs.Loaded.{Tabled, with_bytes, unless_missing, at_walked, configuration, tabled_read, tabled_load, tabled_keep, table_made}
 use Rattle.obj_file.specs.Stored.{Stored, with_store, is_touched, unless_untouched, stored_read, stored_load, stored_keep, address_of_entry, megabyte_touched}
 use Rattle.obj_file.specs.StoreLaw.{AreWords, KeepsWords, StandsIn, megabyte_entry_at, bounded_megabytes, table_entries, nth_entry_at, nth_granule, touched_at, is_of_bounds, kept_entry, AvoidsBounds}
@@ -51,6 +51,7 @@ AnswersAlike P Q (Err o) (Err p) = (o ≡ p) × Q o
 -- why there is no answer: the address has no bounds, or its megabyte is not touched
 abbrev pub IsWanting : Stored → Refusal → Type 0
 IsWanting y (Misses at) = ⊤
+IsWanting y (Lacks in_use capacity) = ⊤
 IsWanting y (Invalid entry_at) = (m : ℕ) × (m < bounded_megabytes) × (is_touched y.bounds m ≡ false) × (entry_at ≡ megabyte_entry_at m)
 
 walk_near : (m : Bytes) (cfg la : ℕ) → la < walk_end → walk m cfg la ≡ walk_by (directory_entry_at cfg la) (number_at 8 m (directory_entry_at cfg la)) la

@@ -14,7 +14,7 @@ use Rattle.x86_forms.specs.Requests.{Store}
 use Rattle.x86_forms.specs.Table.{init_bounds}
 use Rattle.obj_file.specs.declared.image.Image.{Image}
 use Rattle.obj_file.specs.declared.image.Segment.{Segment}
-use Rattle.obj_file.specs.Machine.{Reading, Refusal, Misses, Invalid, Ground, State}
+use Rattle.obj_file.specs.Machine.{Reading, Refusal, Misses, Invalid, Lacks, Ground, State, served_or_invalid}
 use Rattle.obj_file.specs.Runs.{End, run_of, accesses_of}
 
 -- ---- memory
@@ -53,6 +53,7 @@ tabled_keep cfg x la value b = at_walked (walk x.bytes cfg la) (λ at. unless_mi
 abbrev pub status_after : Refusal → ℕ → ℕ
 status_after (Misses at) before = before
 status_after (Invalid entry_at) before = invalid_status entry_at
+status_after (Lacks in_use capacity) before = before
 
 -- memory with the walk as its store of bounds, by the configuration register
 abbrev pub tabled_store : ℕ → Store Tabled Refusal
@@ -84,7 +85,7 @@ ground_of reads outers mode = record {
   reads = reads;
   store = tabled_store (configuration mode.preserve);
   bytes = λ x. x.bytes;
-  serve = table_made;
+  serve = λ x entry_at. served_or_invalid entry_at (table_made x entry_at);
   outers = outers;
   bare = mode.bare;
 }

@@ -1,7 +1,7 @@
 -- The machine: its state, and what one event makes of it (Intel SDM, volume 1, basic execution environment and Intel MPX). An event
 -- is one instruction, with the table that the runtime makes for it and the instruction's restart counted as the same event. It stands
 -- over any memory with a store of bounds; the one of an image is in Loaded.
-use Rattle.std.specs.Prelude.{◌≡◌, ◌↔◌, ◌<◌, ℕ, ◌+◌, ◌-◌, ◌%◌, ◌^◌, ◌≤◌, min, nat_le, Bool, true, false, ◌||◌, if◌then◌else◌, Option, None, Some, List, ◌∷◌, ◌++◌, length, take}
+use Rattle.std.specs.Prelude.{◌≡◌, ◌↔◌, ◌<◌, ℕ, ◌+◌, ◌-◌, ◌%◌, ◌^◌, ◌≤◌, min, nat_le, Bool, true, false, ◌||◌, if◌then◌else◌, Option, None, Some, Result, Ok, Err, List, ◌∷◌, ◌++◌, length, take}
 use Rattle.std.specs.List.{All}
 use Rattle.std.specs.Option.{option_or}
 use Rattle.mx_base.specs.declared.stops.Stop.{Stop}
@@ -44,22 +44,28 @@ pub record IsReader (reads : List ℕ → Reading) : Type 0 where
 
 -- ---- state
 
--- why memory refuses a request of an instruction: no region allows an access of this address, or it has no bounds; or the
--- directory entry at this address names no table
+-- why memory refuses a request of an instruction: no region allows an access of this address, or it has no bounds; the directory
+-- entry at this address names no table; or, where pages have frames, too few of this many frames are free, and so many are in use
 pub data Refusal : Type 0 where
   Misses : (at : ℕ) → Refusal
   Invalid : (entry_at : ℕ) → Refusal
+  Lacks : (in_use capacity : ℕ) → Refusal
 
 -- what a run stands on: how bytes are read as instructions; a memory with a store of bounds, the byte at each address of it, and
--- what the runtime makes of it for a directory entry that names no table, None where as many tables were made as may be; how many
--- outer entries the image has; and whether the watch is off
+-- what the runtime makes of it for a directory entry that names no table, or why it can't; how many outer entries the image has; and
+-- whether the watch is off
 pub record Ground (X : Type 0) : Type 0 where
   pub reads : List ℕ → Reading
   pub store : Store X Refusal
   pub bytes : X → Bytes
-  pub serve : X → ℕ → Option X
+  pub serve : X → ℕ → Result X Refusal
   pub outers : ℕ
   pub bare : Bool
+
+-- what is served for a directory entry, if anything is: else it still names no table
+abbrev pub served_or_invalid : {X : Type 0} → ℕ → Option X → Result X Refusal
+served_or_invalid entry_at None = Err (Invalid entry_at)
+served_or_invalid entry_at (Some x) = Ok x
 
 -- the processor, the memory, what services change, and how many events didn't end in a stop, as far as 64 bits count
 pub record State (X : Type 0) : Type 0 where
@@ -84,6 +90,7 @@ fault_stop from (Violates value b) = stop.Bounds (record { value = value; lb = b
 abbrev pub refusal_stop : Refusal → Stop
 refusal_stop (Misses at) = stop.Unmapped at
 refusal_stop (Invalid entry_at) = stop.NoTable
+refusal_stop (Lacks in_use capacity) = stop.NoFrames in_use capacity
 
 abbrev pub left_by : {X : Type 0} → State X → Processor → X → State X
 left_by s p x = record s { processor = p; memory = x }
@@ -94,14 +101,15 @@ ended s (Failed fault p x) = Halts (fault_stop s.processor.rip fault) (left_by s
 ended s (Refused o p x) = Halts (refusal_stop o) (left_by s p x)
 
 -- the instruction once more over the memory that the runtime served; BNDSTATUS keeps what the fault set
-abbrev pub restarted : {X : Type 0} → Ground X → Instr → ℕ → State X → Processor → X → Option X → Deed X
-restarted g i next s p x None = Halts stop.NoTable (left_by s p x)
-restarted g i next s p x (Some y) = ended s (run g.store p (row i next p) y)
+abbrev pub restarted : {X : Type 0} → Ground X → Instr → ℕ → State X → Processor → X → Result X Refusal → Deed X
+restarted g i next s p x (Err o) = Halts (refusal_stop o) (left_by s p x)
+restarted g i next s p x (Ok y) = ended s (run g.store p (row i next p) y)
 
 -- #BR with an invalid directory entry is served
 abbrev pub served_or_ended : {X : Type 0} → Ground X → Instr → ℕ → State X → Outcome X Refusal → Deed X
 served_or_ended g i next s (Refused (Invalid entry_at) p x) = restarted g i next s p x (g.serve x entry_at)
 served_or_ended g i next s (Refused (Misses at) p x) = ended s (Refused (Misses at) p x)
+served_or_ended g i next s (Refused (Lacks in_use capacity) p x) = ended s (Refused (Lacks in_use capacity) p x)
 served_or_ended g i next s (Done p x) = ended s (Done p x)
 served_or_ended g i next s (Failed fault p x) = ended s (Failed fault p x)
 

@@ -14,7 +14,7 @@ use Rattle.mx_base.specs.World.{Access}
 use Rattle.x86_forms.specs.Requests.{Store}
 use Rattle.obj_file.specs.declared.image.Image.{Image}
 use Rattle.obj_file.specs.declared.image.Segment.{Segment}
-use Rattle.obj_file.specs.Machine.{Reading, Refusal, Misses, Invalid, Ground, State}
+use Rattle.obj_file.specs.Machine.{Reading, Refusal, Misses, Invalid, Lacks, Ground, State, served_or_invalid}
 use Rattle.obj_file.specs.Runs.{End, run_of, accesses_of}
 use Rattle.obj_file.specs.Loaded.{Mode, unless_missing, status_after, configuration, processor_at_start, with_segments}
 
@@ -69,7 +69,7 @@ stored_ground reads outers mode = record {
   reads = reads;
   store = stored_store (configuration mode.preserve);
   bytes = λ y. y.bytes;
-  serve = megabyte_touched;
+  serve = λ y entry_at. served_or_invalid entry_at (megabyte_touched y entry_at);
   outers = outers;
   bare = mode.bare;
 }
@@ -81,6 +81,7 @@ abbrev pub done_or : {A : Type 0} → Option A → Result A Refusal → Option A
 done_or otherwise (Ok v) = Some v
 done_or otherwise (Err (Misses at)) = None
 done_or otherwise (Err (Invalid entry_at)) = otherwise
+done_or otherwise (Err (Lacks in_use capacity)) = None
 
 abbrev pub once_more : {A : Type 0} → (Stored → Result A Refusal) → Option Stored → Option A
 once_more ask None = None
@@ -89,6 +90,7 @@ once_more ask (Some y) = done_or None (ask y)
 abbrev pub with_serving : {A : Type 0} → (Stored → Result A Refusal) → Stored → Result A Refusal → Option A
 with_serving ask y (Ok v) = Some v
 with_serving ask y (Err (Misses at)) = None
+with_serving ask y (Err (Lacks in_use capacity)) = None
 with_serving ask y (Err (Invalid entry_at)) = once_more ask (megabyte_touched y entry_at)
 
 -- ---- images

@@ -5,16 +5,12 @@ mod fault;
 mod fields;
 mod image;
 mod image_reader;
-#[cfg(test)]
-mod image_tests;
 mod image_writer;
 mod laws;
 mod lists;
 mod names;
 mod object;
 mod object_reader;
-#[cfg(test)]
-mod object_tests;
 mod object_writer;
 mod parts;
 mod put;

@@ -3,3 +3,4 @@ pub mod Touched
 pub mod Paged
 pub mod Answers
 pub mod Frames
+pub mod Framed

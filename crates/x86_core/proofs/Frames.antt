@@ -10,7 +10,8 @@ use Rattle.paged_memory.specs.Touched.{touched_by, frames_for}
 use Rattle.x86_forms.specs.Processor.{Processor}
 use Rattle.x86_forms.specs.Requests.{Program, Ends, Fails, Reads, Writes, Loads, Keeps, Refused, run, either_way}
 use Rattle.x86_forms.proofs.TableKeeps.{IsLast, IsTidy}
-use Rattle.x86_core.specs.Framed.{Framed, framed, unframed, framed_answer, framed_write, SameOverBytes}
+use Rattle.paged_memory.specs.Framed.{Framed}
+use Rattle.x86_core.specs.Framed.{framed, unframed, framed_answer, framed_write, SameOverBytes}
 
 module _ (c : Processor) (Q : Processor → Type 0) where
   last : (p : Program) (x : Framed) → IsLast Q p → SameOverBytes (run framed c p x) (run unframed c p x.bytes)

@@ -18,7 +18,8 @@ use Rattle.x86_alu.specs.Alu.{flags_in}
 use Rattle.x86_forms.specs.Requests.{Program, Ends, Fails, Reads, Writes, Undefines, Done, Refused, run, either_way}
 use Rattle.x86_forms.specs.declared.instr.Instr.{Instr}
 use Rattle.x86_forms.specs.Table.{row, value_then, written_to, with_result, with_flags, with_flags_after, at_next, operated, quotient_kept, with_stack, pushed}
-use Rattle.x86_core.specs.Framed.{Framed, framed, framed_of, framed_answer, framed_write}
+use Rattle.paged_memory.specs.Framed.{Framed, framed_of}
+use Rattle.x86_core.specs.Framed.{framed, framed_answer, framed_write}
 use Rattle.x86_core.specs.declared.cpu.Cpu.{Cpu}
 use Rattle.x86_core.specs.declared.cpu.Done as d
 use Rattle.x86_core.specs.declared.cpu.CoreStop.{CoreStop}

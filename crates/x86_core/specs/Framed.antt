@@ -1,4 +1,4 @@
--- What a memory stands for, as a memory of the instruction table: bytes by address, and the frames of the pages that were written.
+-- Bytes with the frames of the pages that were written, as a memory of the instruction table.
 use Rattle.std.specs.Prelude.{◌≡◌, ℕ, nat_lt, if◌then◌else◌, List, Result, Ok, Err, ⊤}
 use Rattle.mx_base.specs.Bounds.{full_bounds}
 use Rattle.mx_base.specs.Memory.{Bytes}
@@ -6,17 +6,8 @@ use Rattle.paged_memory.specs.declared.stops.MemStop.{MemStop}
 use Rattle.paged_memory.specs.declared.stops.MemStop.TheVariants.{Unmapped, NoFrames}
 use Rattle.paged_memory.specs.Answers.{load_answer, store_answer}
 use Rattle.paged_memory.specs.Touched.{touched_by, frames_for}
-use Rattle.paged_memory.specs.Paged.{Paged, bytes_of, touched_of}
+use Rattle.paged_memory.specs.Framed.{Framed}
 use Rattle.x86_forms.specs.Requests.{Store, Outcome, Done, Failed, Refused}
-
--- the byte at each address, the touched pages, and how many frames there are
-pub record Framed : Type 0 where
-  pub bytes : Bytes
-  pub touched : List ℕ
-  pub capacity : ℕ
-
-abbrev pub framed_of : Paged → Framed
-framed_of m = record { bytes = bytes_of m; touched = touched_of m; capacity = m.capacity }
 
 -- bytes that were written, if there are frames for the pages that are touched then
 abbrev pub framed_answer : Framed → List ℕ → Result Bytes MemStop → Result Framed MemStop

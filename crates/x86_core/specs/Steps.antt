@@ -20,7 +20,8 @@ use Rattle.x86_core.specs.declared.cpu.Done.{Done}
 use Rattle.x86_core.specs.declared.cpu.Done.TheVariants.{Next, Branch, Service}
 use Rattle.x86_core.specs.declared.cpu.CoreStop.{CoreStop}
 use Rattle.x86_core.specs.declared.cpu.CoreStop.TheVariants.{Mem, Divide, Undefined}
-use Rattle.x86_core.specs.Framed.{Framed, framed, framed_of}
+use Rattle.paged_memory.specs.Framed.{Framed, framed_of}
+use Rattle.x86_core.specs.Framed.{framed}
 
 -- what a processor has beside registers, flags and rip
 pub record BoundsState : Type 0 where

@@ -60,6 +60,3 @@ pub fn run_early<O: Sink>(
     }
     Ok(EarlyStop::Undefined)
 }
-
-#[cfg(test)]
-mod tests;

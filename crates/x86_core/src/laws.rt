@@ -6,7 +6,8 @@ ghost use Rattle.x86_forms.specs.Processor.{Processor};
 ghost use Rattle.x86_forms.specs.Requests.{run};
 ghost use Rattle.x86_forms.specs.Table.{row};
 ghost use Rattle.x86_core.specs.EarlyLaws.{EachRunsOnce};
-ghost use Rattle.x86_core.specs.Framed.{Framed, framed, unframed, SameOverBytes};
+ghost use Rattle.paged_memory.specs.Framed.{Framed};
+ghost use Rattle.x86_core.specs.Framed.{framed, unframed, SameOverBytes};
 
 /// The law that code of the first path has exactly one run, whatever its bytes are.
 pub fn code_runs_once()

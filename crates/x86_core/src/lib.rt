@@ -13,6 +13,3 @@ pub use cpu::{CoreStop, Cpu, Done};
 pub use early::{EarlyStop, run_early};
 pub use laws::{code_runs_once, rows_need_frames_alone};
 pub use steps::{plain, step};
-
-#[cfg(test)]
-mod tests;

@@ -5,7 +5,8 @@ ghost use Rattle.paged_memory.specs.Answers.{is_width, load_answer};
 ghost use Rattle.x86_forms.specs.Arithmetic.{low as low_bits};
 ghost use Rattle.x86_forms.specs.Processor.{part_written, with_part, with_reg, rsp};
 ghost use Rattle.x86_forms.specs.Validity.{rm_ok, width_ok};
-ghost use Rattle.x86_core.specs.Framed.{framed_of, framed_write};
+ghost use Rattle.paged_memory.specs.Framed.{framed_of};
+ghost use Rattle.x86_core.specs.Framed.{framed_write};
 ghost use Rattle.x86_core.specs.Steps.{core_answer, operand_value, StoresAs};
 
 use crate::cpu::CoreStop;

@@ -2,7 +2,8 @@ use Rattle.std.proofs.Common.{◌∙◌, sym}
 use Rattle.paged_memory.specs.Paged.{bytes_of}
 use Rattle.bound_tables.specs.Entries.{place_of}
 use Rattle.mpx_core.specs.Registers.{held_bounds}
-use Rattle.mpx_core.specs.Steps.{walked_keep, framed_of}
+use Rattle.paged_memory.specs.Framed.{framed_of}
+use Rattle.mpx_core.specs.Steps.{walked_keep}
 use Rattle.mpx_core.proofs.Doing.{keep_written}
 use Rattle.mpx_core.proofs.Low.{stored_low}
 use Rattle.mpx_core.proofs.tables.keep.Goals as goal

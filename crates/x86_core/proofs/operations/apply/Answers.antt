@@ -1,7 +1,8 @@
 use Rattle.std.proofs.Common.{◌≡◌, ◌∙◌, arith}
 use Rattle.x86_forms.specs.Requests.{run}
 use Rattle.x86_forms.specs.Table.{value_then, one_operand}
-use Rattle.x86_core.specs.Framed.{framed, framed_of}
+use Rattle.paged_memory.specs.Framed.{framed_of}
+use Rattle.x86_core.specs.Framed.{framed}
 use Rattle.x86_core.specs.Steps.{seen}
 use Rattle.x86_core.proofs.Rows.{signed_division}
 use Rattle.x86_core.proofs.operations.apply.Goals as goal

@@ -1,7 +1,9 @@
-use crate::{CoreStop, Cpu, Done, plain, step};
+//! Single instructions that are not of MPX.
+
 use paged_memory::{MemStop, Memory};
 use std::test::Fail;
 use x86_alu::Four;
+use x86_core::{CoreStop, Cpu, Done, plain, step};
 use x86_forms::{Base, Instr, Mem, Reg, Rm, valid};
 
 const CODE: u64 = 0x1200_0000;
@@ -295,13 +297,10 @@ fn steps_change_what_the_manual_says(rt: HostRuntime) -> Result<(), Fail> {
     let mut m = Memory::make(rt.alloc(), 2)?;
     for (i, done, rip, k, value, flags) in table {
         let mut cpu = started();
-        assert_eq!(rt; m.store(STACK, 8, top), Ok(()));
-        assert_eq!(rt; does(&mut cpu, &mut m, i), Ok(done), "{i:?}");
-        assert_eq!(rt;
-            (cpu.rip, cpu.regs.get(k).copied(), cpu.flags),
-            (rip, Some(value), four(flags)),
-            "{i:?}"
-        );
+        m.store(STACK, 8, top)?;
+        let how = does(&mut cpu, &mut m, i);
+        let found = (how, cpu.rip, cpu.regs.get(k).copied(), cpu.flags);
+        assert_eq!(rt; (i, found), (i, (Ok(done), rip, Some(value), four(flags))));
     }
     Ok(())
 }
@@ -347,7 +346,7 @@ fn pushes_write_what_was_there_before(rt: HostRuntime) -> Result<(), Fail> {
     for (i, value) in table {
         let mut cpu = started();
         let _done = does(&mut cpu, &mut m, i);
-        assert_eq!(rt; m.load(STACK - 8, 8), Ok(value), "{i:?}");
+        assert_eq!(rt; (i, m.load(STACK - 8, 8)), (i, Ok(value)));
     }
     Ok(())
 }
@@ -355,7 +354,7 @@ fn pushes_write_what_was_there_before(rt: HostRuntime) -> Result<(), Fail> {
 #[test]
 fn steps_that_are_not_done_change_nothing(rt: HostRuntime) -> Result<(), Fail> {
     let mut m = Memory::make(rt.alloc(), 1)?;
-    assert_eq!(rt; m.store(STACK, 8, 7), Ok(()));
+    m.store(STACK, 8, 7)?;
     let short = MemStop::NoFrames {
         in_use: 1,
         capacity: 1,
@@ -413,12 +412,9 @@ fn steps_that_are_not_done_change_nothing(rt: HostRuntime) -> Result<(), Fail> {
     ];
     for (i, stop) in table {
         let mut cpu = started();
-        assert_eq!(rt; does(&mut cpu, &mut m, i), Err(stop), "{i:?}");
-        assert_eq!(rt;
-            (cpu, m.load(STACK, 8), m.touched()),
-            (started(), Ok(7), 1),
-            "{i:?}"
-        );
+        let how = does(&mut cpu, &mut m, i);
+        let found = (how, cpu, m.load(STACK, 8), m.touched());
+        assert_eq!(rt; (i, found), (i, (Err(stop), started(), Ok(7), 1)));
     }
     Ok(())
 }

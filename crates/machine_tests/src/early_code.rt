@@ -1,8 +1,9 @@
 //! Code that was assembled by GNU `as`, run into a small sink.
 ghost use Rattle.std.specs.Prelude.{Some};
 
-use super::*;
+use mx_base::{Failed, Sink};
 use std::test::Fail;
+use x86_core::{EarlyStop, run_early};
 
 /// A sink that takes one byte a call, and fails once it holds `room` bytes.
 #[derive(Drop)]
@@ -106,8 +107,8 @@ fn runs(rt: HostRuntime) -> Result<(), Fail> {
             room,
             faults: 0,
         };
-        assert_eq!(rt; run_early(rt.alloc(), code, 4, &mut out)?, stop, "{code:?}");
-        assert_eq!(rt; out.bytes.as_slice(), bytes);
+        let found = run_early(rt.alloc(), code, 4, &mut out)?;
+        assert_eq!(rt; (code, found, out.bytes.as_slice()), (code, stop, bytes));
     }
     Ok(())
 }

@@ -1,9 +1,6 @@
 //! Images at the edges of their form.
 
-use crate::fault::FormFault;
-use crate::image::Spot4;
-use crate::image_reader::read_image;
-use crate::image_writer::write_image;
+use obj_file::{FormFault, Spot4, read_image, write_image};
 use std::process::Abort;
 use std::test::Fail;
 
@@ -32,25 +29,30 @@ fn the_empty_image(rt: HostRuntime) -> Result<(), Fail> {
     bytes[1] = b'X';
     bytes[2] = b'I';
     bytes[3] = b'1';
-    assert_eq!(rt; bad_at(&rt, &bytes[..20]), None);
-    assert_eq!(rt; bad_at(&rt, &bytes), Some(20));
-    for len in 0..20 {
-        assert_eq!(rt; bad_at(&rt, &bytes[..len]), Some((len / 4 * 4) as u64));
+    for len in 0..22 {
+        let want = match len {
+            20 => None,
+            _ => Some((len / 4 * 4) as u64),
+        };
+        assert_eq!(rt; (len, bad_at(&rt, &bytes[..len])), (len, want));
     }
     Ok(())
 }
 
 #[test]
 fn a_cut_names_its_field(rt: HostRuntime) {
-    assert_eq!(rt; bad_at(&rt, &SMALL), None);
-    for len in 0..55 {
+    for len in 0..56 {
         let mut field = 0;
         for start in FIELDS {
             if start <= len {
                 field = start;
             }
         }
-        assert_eq!(rt; bad_at(&rt, &SMALL[..len]), Some(field as u64));
+        let want = match len {
+            55 => None,
+            _ => Some(field as u64),
+        };
+        assert_eq!(rt; (len, bad_at(&rt, &SMALL[..len])), (len, want));
     }
 }
 
@@ -84,7 +86,7 @@ fn each_rule_broken_once(rt: HostRuntime) {
         if index < 55 {
             bytes[index] = byte;
         }
-        assert_eq!(rt; bad_at(&rt, &bytes), at);
+        assert_eq!(rt; (index, byte, bad_at(&rt, &bytes)), (index, byte, at));
     }
 }
 
@@ -94,10 +96,9 @@ fn a_small_image_both_ways(rt: HostRuntime) -> Result<(), Fail> {
     let Ok(image) = read_image(alloc, &SMALL) else {
         panic!(rt; "the bytes are an image");
     };
-    assert_eq!(rt; image.outers, 1);
     for segment in image.segments.as_slice() {
-        assert_eq!(rt; segment.at, 0x0200_0000);
-        assert_eq!(rt; segment.bytes.as_slice(), [0xC3].as_slice());
+        let found = (segment.at, segment.bytes.as_slice());
+        assert_eq!(rt; found, (0x0200_0000, [0xC3].as_slice()));
     }
     for file in image.files.as_slice() {
         assert_eq!(rt; file.as_str(), "a");
@@ -108,8 +109,17 @@ fn a_small_image_both_ways(rt: HostRuntime) -> Result<(), Fail> {
         line: 2,
         col: 3,
     };
-    assert_eq!(rt; image.places.as_slice(), [spot].as_slice());
     let bytes = write_image(alloc, &image)?;
-    assert_eq!(rt; bytes.as_slice(), SMALL.as_slice());
+    let counts = (
+        image.segments.as_slice().len(),
+        image.files.as_slice().len(),
+    );
+    let found = (
+        image.outers,
+        counts,
+        image.places.as_slice(),
+        bytes.as_slice(),
+    );
+    assert_eq!(rt; found, (1, (1, 1), [spot].as_slice(), SMALL.as_slice()));
     Ok(())
 }

@@ -1,10 +1,6 @@
 //! Objects at the edges of their form.
 
-use crate::fault::FormFault;
-use crate::names::{is_c_name, is_data_sig, is_function_sig};
-use crate::object::{Fix, Spot3};
-use crate::object_reader::read_object;
-use crate::object_writer::write_object;
+use obj_file::{Fix, FormFault, Spot3, read_object, write_object};
 use std::process::Abort;
 use std::test::Fail;
 
@@ -35,21 +31,24 @@ fn bad_at(rt: &(impl Abort + AllocGlobal), bytes: &[u8]) -> Option<u64> {
 
 #[test]
 fn a_cut_names_its_field(rt: HostRuntime) {
-    assert_eq!(rt; bad_at(&rt, &SMALL), None);
-    for len in 0..120 {
+    let mut longer = [0; 121];
+    for (to, from) in longer.iter_mut().zip(SMALL) {
+        *to = from;
+    }
+    for len in 0..122 {
         let mut field = 0;
         for start in FIELDS {
             if start <= len {
                 field = start;
             }
         }
-        assert_eq!(rt; bad_at(&rt, &SMALL[..len]), Some(field as u64));
+        let want = match len {
+            120 => None,
+            121 => Some(120),
+            _ => Some(field as u64),
+        };
+        assert_eq!(rt; (len, bad_at(&rt, &longer[..len])), (len, want));
     }
-    let mut longer = [0; 121];
-    for (to, from) in longer.iter_mut().zip(SMALL) {
-        *to = from;
-    }
-    assert_eq!(rt; bad_at(&rt, &longer), Some(120));
 }
 
 #[test]
@@ -102,12 +101,32 @@ fn each_rule_broken_once(rt: HostRuntime) {
         if index < 120 {
             bytes[index] = byte;
         }
-        assert_eq!(rt; bad_at(&rt, &bytes), at);
+        assert_eq!(rt; (index, byte, bad_at(&rt, &bytes)), (index, byte, at));
     }
 }
 
+/// Whether an object may have one symbol in this part, of this name and signature.
+fn has_symbol(
+    rt: &(impl Abort + AllocGlobal),
+    part: u8,
+    name: &[u8],
+    sig: &[u8],
+) -> Result<bool, Fail> {
+    let mut bytes = Vec::new(rt.alloc());
+    bytes.extend_from_slice(b"MXO1\x01\0\0\0\0\0\0\0\0\0\x01\0\0\0")?;
+    bytes.push(part)?;
+    bytes.extend_from_slice(&[0; 4])?;
+    bytes.push(name.len().min(255) as u8)?;
+    bytes.extend_from_slice(name)?;
+    bytes.push(sig.len().min(255) as u8)?;
+    bytes.extend_from_slice(sig)?;
+    bytes.extend_from_slice(&[0; 8])?;
+    Ok(bad_at(rt, bytes.as_slice()).is_none())
+}
+
 #[test]
-fn names_and_signatures(rt: HostRuntime) {
+fn names_and_signatures(rt: HostRuntime) -> Result<(), Fail> {
+    // A text, whether it is a name, the signature of a function, and that of data.
     let cases: [(&[u8], bool, bool, bool); 20] = [
         (b"", false, false, false),
         (b"_", true, false, false),
@@ -131,10 +150,15 @@ fn names_and_signatures(rt: HostRuntime) {
         (b"d16777216", true, false, true),
     ];
     for (text, name, function, data) in cases {
-        assert_eq!(rt; is_c_name(text), name);
-        assert_eq!(rt; is_function_sig(text), function);
-        assert_eq!(rt; is_data_sig(text), data);
+        let is_name = has_symbol(&rt, 0, text, b"fi()")?;
+        let is_function = has_symbol(&rt, 1, b"x", text)?;
+        let is_data = has_symbol(&rt, 2, b"x", text)?;
+        assert_eq!(rt;
+            (text, is_name, is_function, is_data),
+            (text, name, function, data)
+        );
     }
+    Ok(())
 }
 
 #[test]
@@ -143,10 +167,12 @@ fn a_small_object_both_ways(rt: HostRuntime) -> Result<(), Fail> {
     let Ok(object) = read_object(alloc, &SMALL) else {
         panic!(rt; "the bytes are an object");
     };
-    assert!(rt; !object.legacy);
-    assert_eq!(rt; object.file.as_str(), "a.c");
-    assert_eq!(rt; object.code.as_slice().len(), 13);
-    assert_eq!(rt; object.symbols.as_slice().len(), 2);
+    let counts = (
+        object.code.as_slice().len(),
+        object.symbols.as_slice().len(),
+    );
+    let found = (object.legacy, object.file.as_str(), counts);
+    assert_eq!(rt; found, (false, "a.c", (13, 2)));
     let relative = Fix {
         part: 1,
         offset: 1,
@@ -161,14 +187,21 @@ fn a_small_object_both_ways(rt: HostRuntime) -> Result<(), Fail> {
         symbol: 1,
         addend: 0,
     };
-    assert_eq!(rt; object.fixes.as_slice(), [relative, absolute].as_slice());
     let spot = Spot3 {
         offset: 5,
         line: 1,
         col: 2,
     };
-    assert_eq!(rt; object.places.as_slice(), [spot].as_slice());
     let bytes = write_object(alloc, &object)?;
-    assert_eq!(rt; bytes.as_slice(), SMALL.as_slice());
+    let found = (
+        object.fixes.as_slice(),
+        object.places.as_slice(),
+        bytes.as_slice(),
+    );
+    let fixes = [relative, absolute];
+    assert_eq!(rt;
+        found,
+        (fixes.as_slice(), [spot].as_slice(), SMALL.as_slice())
+    );
     Ok(())
 }
