@@ -1,138 +1,189 @@
--- A source has one tree, and what is none has one first token that does not fit.
-use Rattle.std.proofs.Common.{◌≡◌, ◌⊎◌, inl, inr, ℕ, zero, suc, ◌+◌, ◌<◌, Bool, true, false, if◌then◌else◌, List, [], ◌∷◌, ◌++◌, append_assoc, append-nil, Ok, Err, refl, sym, ◌∙◌, ap, subst, arith}
+-- The rules of what stands at the outermost level, as equations of what reading them gives.
+use Rattle.std.proofs.Common.{◌≡◌, ℕ, ◌+◌, Bool, true, false, if◌then◌else◌, List, [], ◌∷◌, ◌++◌, Ok, Err, Option, Some, None, refl, sym, ◌∙◌, ap}
 use Rattle.mx_base.specs.declared.places.Place.{Place}
 use Rattle.c_tokens.specs.declared.class.Class.TheVariants as k
+use Rattle.c_tree.specs.declared.tree.Base.{Base}
+use Rattle.c_tree.specs.declared.tree.Base.TheVariants as b
+use Rattle.c_tree.specs.declared.tree.Decl.{Decl}
+use Rattle.c_tree.specs.declared.tree.Expr.{Expr}
+use Rattle.c_tree.specs.declared.tree.Init.{Init}
 use Rattle.c_tree.specs.declared.tree.Item.{Item}
-use Rattle.c_reader.specs.Lexemes.{Lexeme, same, look, among}
-use Rattle.c_reader.specs.Rules as n
-use Rattle.c_reader.specs.Rules.{N, Of, Rx, eps, no_else, tok, seq, alt, map, nest, scope, call, after_scope}
-use Rattle.c_reader.specs.Grammar.{rule}
-use Rattle.c_reader.specs.Reading.{Out, unfit, too_deep, Allow, and_then, starts, take_tok, parse_with, size, parse, limit}
-use Rattle.c_reader.specs.Program.{IsSource, Begins, Fails, FirstBad, place_at}
-use Rattle.c_reader.specs.SourceLaws.{SourcesHaveLevels, OneTree, SourceOrBad, BadIsNone, OneBad, OneDeep}
-use Rattle.c_reader.proofs.Good.{Calls}
-use Rattle.c_reader.proofs.Steps.{Below, calls_mono, calls_of, parse_shrinks, parse_step}
-use Rattle.c_reader.proofs.Whole.{read_all, read_only, not_left, not_stuck, left_over, stuck_at, one_more}
-use Rattle.c_reader.proofs.Deepest.{too_deep_only}
-use Rattle.c_reader.proofs.Levels.{forget, levelled}
+use Rattle.c_tree.specs.declared.tree.Stmt.{Stmt}
+use Rattle.c_grammar.specs.declared.parts.InitDeclarator.{InitDeclarator}
+use Rattle.c_grammar.specs.declared.parts.Named.{Named}
+use Rattle.c_grammar.specs.declared.parts.Typed.{Typed}
+use Rattle.c_grammar.specs.Lexemes.{Lexeme, same, look, among}
+use Rattle.c_grammar.specs.Nodes as made
+use Rattle.c_grammar.specs.Rules as n
+use Rattle.c_grammar.specs.Reading.{Out, Halt, and_then, take_tok, parse, steps, steps_of, steps_with, limit, begins}
+use Rattle.c_grammar.proofs.Steps.{parse_steps, fragment, then_ok, then_done}
+use Rattle.c_expressions.specs.Gives.{through}
+use Rattle.c_reader.specs.Pieces.{named_parameter, named_parameters, enclosed_parameters, function, braced_members, ended_members, named_item, globals, external}
+use Rattle.c_statements.proofs.Lists.{globals_begin, after_comma, comma_read, comma_fails, comma_wants, comma_then}
+use Rattle.c_statements.proofs.Joined.{from_none, push_more, push_stop, push_none, append_more, append_stop, append_none}
 
--- ---- with no limit nothing is too deep
+if_first : {A : Type 0} (b : Bool) (x y z : A) → x ≡ y → (if b then x else z) ≡ (if b then y else z)
+if_first b x y z e = ap (λ w. if b then w else z) e
 
-abbrev free : Allow
-free d = true
+if_second : {A : Type 0} (b : Bool) (x y z : A) → x ≡ y → (if b then z else x) ≡ (if b then z else y)
+if_second b x y z e = ap (λ w. if b then z else w) e
 
-abbrev Shallow : {A : Type 0} → Out A → Type 0
-Shallow (Ok p) = Unit {0}
-Shallow (Err (unfit at)) = Unit {0}
-Shallow (Err (too_deep at)) = ⊥
+then_through : {A B C : Type 0} (f : A → B) (o : Out A) (g : B → List Lexeme → ℕ → Out C) → and_then (through f o) g ≡ and_then o (λ a mid d. g (f a) mid d)
+then_through f (Ok p) g = refl
+then_through f (Err at) g = refl
 
-then_shallow : {A B : Type 0} (o : Out A) (f : A → List Lexeme → ℕ → Out B) → Shallow o → ((a : A) (mid : List Lexeme) (e : ℕ) → o ≡ Ok (a, mid, e) → Shallow (f a mid e)) → Shallow (and_then o f)
-then_shallow (Ok p) f x y = y p.0 p.1 p.2 refl
-then_shallow (Err (unfit at)) f x y = tt
-then_shallow (Err (too_deep at)) f x y = x
+then_push : {A B C : Type 0} (f : B → C) (o : Out A) (g : A → List Lexeme → ℕ → Out B) → through f (and_then o g) ≡ and_then o (λ a mid d. through f (g a mid d))
+then_push f (Ok p) g = refl
+then_push f (Err at) g = refl
 
-if_shallow : {A : Type 0} (b : Bool) (o o' : Out A) → Shallow o → Shallow o' → Shallow (if b then o else o')
-if_shallow true o o' x y = x
-if_shallow false o o' x y = y
+through_twice : {A B C : Type 0} (f : B → C) (g : A → B) (o : Out A) → through f (through g o) ≡ through (λ a. f (g a)) o
+through_twice f g (Ok p) = refl
+through_twice f g (Err at) = refl
 
-shallow : {A : Type 0} (r : Rx A) (d : ℕ) (ts : List Lexeme) → Calls free (λ m e us. Shallow (parse free m e us)) (parse free) r d ts → Shallow (parse_with free (parse free) r d ts)
-unfolding take_tok
-shallow eps d ts x = tt
-shallow no_else d ts x = if_shallow {A = Unit {0}} (same (look ts) k.Else) (Err (unfit ts)) (Ok (tt, ts, d)) tt tt
-shallow (tok g c cs) d [] x = tt
-shallow (tok {A} g c cs) d (t ∷ ts) x = if_shallow {A = A} (among t.class (c ∷ cs)) (Ok (g t, ts, d)) (Err (unfit (t ∷ ts))) tt tt
-shallow (seq {A} {B} r s) d ts x = then_shallow {B = A × B} (parse_with free (parse free) r d ts) _ (shallow r d ts x.0) (λ a mid e eq. then_shallow {B = A × B} (parse_with free (parse free) s e mid) _ (shallow s e mid (x.1 a mid e eq)) (λ b rest e' eq'. tt))
-shallow (alt r s) d ts x = if_shallow (starts r (look ts)) (parse_with free (parse free) r d ts) (parse_with free (parse free) s d ts) (shallow r d ts x.0) (shallow s d ts x.1)
-shallow (map {A} {B} g r) d ts x = then_shallow {B = B} (parse_with free (parse free) r d ts) _ (shallow r d ts x) (λ a rest e eq. tt)
-shallow (nest r) d ts x = if_shallow (starts r (look ts)) (parse_with free (parse free) r (d + 1) ts) (Err (unfit ts)) (shallow r (d + 1) ts x) tt
-shallow (scope {A} g r) d ts x = then_shallow {B = A} (parse_with free (parse free) r d ts) _ (shallow r d ts x) (λ a rest e eq. tt)
-shallow (call m) d ts x = x
+through_if : {A B : Type 0} (f : A → B) (b : Bool) (o o' : Out A) → through f (if b then o else o') ≡ (if b then through f o else through f o')
+through_if f true o o' = refl
+through_if f false o o' = refl
 
-shallow_below : (h : ℕ) (m : N) (d : ℕ) (ts : List Lexeme) → size m ts < h → Shallow (parse free m d ts)
-shallow_below zero m d ts l = absurd (omega arith)
-shallow_below (suc h) m d ts l = subst Shallow (sym (parse_step free m d ts)) (shallow (rule m) d ts (calls_mono free (Below (size m ts)) (λ m' e us. Shallow (parse free m' e us)) (parse free) (λ m' e us b. shallow_below h m' e us (omega arith)) (rule m) d ts (calls_of free (parse free) (parse_shrinks free) m d ts)))
+last_push : {A B C : Type 0} (f : B → C) (g : A → B) (o : Out A) (t : ℕ → List Lexeme → Out Place) → through f (and_then o (λ a mid d. and_then (t d mid) (λ _ rest e. Ok (g a, rest, e)))) ≡ and_then (through (λ a. f (g a)) o) (λ all mid d. and_then (t d mid) (λ _ rest e. Ok (all, rest, e)))
+last_push f g (Err at) t = refl
+last_push f g (Ok p) t = through_twice f (λ _. g p.0) (t p.2 p.1)
 
--- ---- the laws of sources
+-- ---- parameters
 
-trees : (ts : List Lexeme) (a b : List Item) → IsSource ts a → IsSource ts b → (o : Out (List Item)) → parse free n.Source 0 ts ≡ o → Shallow o → a ≡ b
-trees ts a b x y (Ok p) e s = by_rest p.0 p.1 p.2 e
-  where
-    by_rest : (v : List Item) (rest : List Lexeme) (d : ℕ) → parse free n.Source 0 ts ≡ Ok (v, rest, d) → a ≡ b
-    by_rest v [] d e = sym (read_only free ts v a d e x) ∙ read_only free ts v b d e y
-    by_rest v (t ∷ rest) d e = absurd (not_left free ts v a t rest d e x)
-trees ts a b x y (Err (unfit at)) e s = absurd (not_stuck free ts at a e x)
-trees ts a b x y (Err (too_deep at)) e s = absurd s
+pub step_parameter : (d : ℕ) (ts : List Lexeme) → parse limit n.Parameter d ts ≡ and_then (parse limit n.AnyBase d ts) (λ typed mid d1. and_then (steps_of (named_parameter typed) d1 mid) (λ v rest d2. Ok (v, rest, d2)))
+step_parameter d ts = parse_steps n.Parameter d ts ∙ then_ok (parse limit n.AnyBase d ts) _ _ (λ typed mid d1. sym (fragment (named_parameter typed) d1 mid (λ v rest d2. Ok (v, rest, d2))))
 
-pub one_tree : OneTree
-one_tree ts a b x y = trees ts a b x y (parse free n.Source 0 ts) refl (shallow_below (suc (size n.Source ts)) n.Source 0 ts (omega arith))
+pub step_after_void : (d : ℕ) (ts : List Lexeme) → parse limit n.AfterVoid d ts ≡ steps n.AfterVoid d ts
+step_after_void d ts = parse_steps n.AfterVoid d ts
 
-either : (ts : List Lexeme) (end : Place) (o : Out (List Item)) → parse free n.Source 0 ts ≡ o → Shallow o → ((items : List Item) × IsSource ts items) ⊎ ((place : Place) × FirstBad ts end place)
-either ts end (Ok p) e s = by_rest p.0 p.1 p.2 e
-  where
-    by_rest : (v : List Item) (rest : List Lexeme) (d : ℕ) → parse free n.Source 0 ts ≡ Ok (v, rest, d) → ((items : List Item) × IsSource ts items) ⊎ ((place : Place) × FirstBad ts end place)
-    by_rest v [] d e = inl (v, read_all free ts v d e)
-    by_rest v (t ∷ rest) d e = inr (t.place, left_over free ts v t rest d end e)
-either ts end (Err (unfit at)) e s = inr (place_at at end, stuck_at free ts at end e)
-either ts end (Err (too_deep at)) e s = absurd s
+pub step_parameters : (d : ℕ) (ts : List Lexeme) → parse limit n.Parameters d ts ≡ (if same (look ts) k.Void then and_then (take_tok made.place_of k.Void [] d ts) (λ start mid d1. and_then (parse limit n.AfterVoid d1 mid) (λ f rest d2. Ok (f start, rest, d2)))
+    else and_then (parse limit n.ObjectBase d ts) (λ typed mid d1. and_then (steps_of (named_parameters typed) d1 mid) (λ v rest d2. Ok (v, rest, d2))))
+step_parameters d ts = parse_steps n.Parameters d ts ∙ if_second (same (look ts) k.Void) _ _ _ (then_ok (parse limit n.ObjectBase d ts) _ _ (λ typed mid d1. sym (fragment (named_parameters typed) d1 mid (λ v rest d2. Ok (v, rest, d2)))))
 
-pub source_or_bad : SourceOrBad
-source_or_bad ts end = either ts end (parse free n.Source 0 ts) refl (shallow_below (suc (size n.Source ts)) n.Source 0 ts (omega arith))
+params_turn : (d : ℕ) (ts : List Lexeme) → same (look ts) k.Comma ≡ true → parse limit n.MoreParameters d ts ≡ and_then (after_comma (parse limit n.Parameter) d ts) (λ a mid d'. through (λ more. a ∷ more) (parse limit n.MoreParameters d' mid))
+params_turn d ts e =
+    let q : parse limit n.MoreParameters d ts ≡ and_then (take_tok made.place_of k.Comma [] d ts) (λ _ mid d1. and_then (parse limit n.Parameter d1 mid) (λ a mid d'. through (λ more. a ∷ more) (parse limit n.MoreParameters d' mid))) = parse_steps n.MoreParameters d ts ∙ rw e refl in
+    q ∙ comma_then (parse limit n.Parameter) d ts (λ a mid d'. through (λ more. a ∷ more) (parse limit n.MoreParameters d' mid))
 
-fails_none : (front at : List Lexeme) (items : List Item) → Fails front at → IsSource (front ++ at) items → ⊥
-fails_none front [] items f x = f items (subst (λ z. IsSource z items) (append-nil front) x)
-fails_none front (t ∷ at) items f x = f (record { more = at; items = items; is = subst (λ z. IsSource z items) (sym (one_more front at t)) x })
+params_end : (d : ℕ) (ts : List Lexeme) → same (look ts) k.Comma ≡ false → parse limit n.MoreParameters d ts ≡ Ok ([], ts, d)
+params_end d ts e = parse_steps n.MoreParameters d ts ∙ rw e refl
 
-pub bad_is_none : BadIsNone
-bad_is_none ts end place items x y = fails_none x.front x.at items x.fails (subst (λ z. IsSource z items) x.splits y)
+-- what reading parameters gives where some were read before
+unfoldable pub params_after : List Decl → ℕ → List Lexeme → Out (List Decl)
+params_after xs d ts = through (λ more. xs ++ more) (parse limit n.MoreParameters d ts)
 
--- what begins with more begins a source too
-shorter : (front more : List Lexeme) → Begins (front ++ more) → Begins front
-shorter front more x = record { more = more ++ x.more; items = x.items; is = subst (λ z. IsSource z x.items) (append_assoc front more x.more) x.is }
+params_whole : (typed : Typed) (d : ℕ) (ts : List Lexeme) → steps_of (named_parameters typed) d ts ≡ and_then (steps_of (named_parameter typed) d ts) (λ a mid d'. through (λ more. a ∷ more) (parse limit n.MoreParameters d' mid))
+params_whole typed d ts = sym (fragment (named_parameter typed) d ts (λ a mid d'. through (λ more. a ∷ more) (parse limit n.MoreParameters d' mid)))
 
--- of two fronts of a text the one that fails is not the shorter one
-apart : (base a b at at' : List Lexeme) (end : Place) → a ++ at ≡ b ++ at' → Begins (base ++ a) → Begins (base ++ b) → Fails (base ++ a) at → Fails (base ++ b) at' → place_at at end ≡ place_at at' end
-apart base [] [] at at' end e x y f g = ap (λ z. place_at z end) e
-apart base [] (t ∷ b) [] at' end e x y f g = cc
-apart base [] (t ∷ b) (u ∷ at) at' end e x y f g =
-    let s : t ≡ u = cc in
-    let p : base ++ t ∷ b ≡ (base ++ t ∷ []) ++ b = sym (append_assoc base (t ∷ []) b) in
-    absurd (f (subst Begins (ap (λ z. z ++ u ∷ []) (sym (append-nil base))) (subst (λ z. Begins (base ++ z ∷ [])) s (shorter (base ++ t ∷ []) b (subst Begins p y)))))
-apart base (t ∷ a) [] at [] end e x y f g = cc
-apart base (t ∷ a) [] at (u ∷ at') end e x y f g =
-    let s : t ≡ u = cc in
-    let p : base ++ t ∷ a ≡ (base ++ t ∷ []) ++ a = sym (append_assoc base (t ∷ []) a) in
-    absurd (g (subst Begins (ap (λ z. z ++ u ∷ []) (sym (append-nil base))) (subst (λ z. Begins (base ++ z ∷ [])) s (shorter (base ++ t ∷ []) a (subst Begins p x)))))
-apart base (t ∷ a) (u ∷ b) at at' end e x y f g =
-    let s : u ≡ t = cc in
-    let p : base ++ t ∷ a ≡ (base ++ t ∷ []) ++ a = sym (append_assoc base (t ∷ []) a) in
-    let q : base ++ u ∷ b ≡ (base ++ t ∷ []) ++ b = ap (λ z. base ++ z ∷ b) s ∙ sym (append_assoc base (t ∷ []) b) in
-    apart (base ++ t ∷ []) a b at at' end (rests t u (a ++ at) (b ++ at') e) (subst Begins p x) (subst Begins q y) (subst (λ z. Fails z at) p f) (subst (λ z. Fails z at') q g)
-  where
-    rests : (t u : Lexeme) (xs ys : List Lexeme) → t ∷ xs ≡ u ∷ ys → xs ≡ ys
-    rests t u xs ys e = cc
+pub params_begin : (typed : Typed) (d d' : ℕ) (ts mid : List Lexeme) (a : Decl) → steps_of (named_parameter typed) d ts ≡ Ok (a, mid, d') → steps_of (named_parameters typed) d ts ≡ params_after (a ∷ []) d' mid
+unfolding params_after
+params_begin typed d d' ts mid a h = params_whole typed d ts ∙ ap (λ o. and_then o (λ a mid d'. through (λ more. a ∷ more) (parse limit n.MoreParameters d' mid))) h
 
-pub one_bad : OneBad
-one_bad ts end p q x y = x.here ∙ apart [] x.front y.front x.at y.at end (sym x.splits ∙ y.splits) x.begins y.begins x.fails y.fails ∙ sym y.here
+pub params_begin_stop : (typed : Typed) (d : ℕ) (ts : List Lexeme) (at : Halt) → steps_of (named_parameter typed) d ts ≡ Err at → steps_of (named_parameters typed) d ts ≡ Err at
+params_begin_stop typed d ts at h = params_whole typed d ts ∙ ap (λ o. and_then o (λ a mid d'. through (λ more. a ∷ more) (parse limit n.MoreParameters d' mid))) h
 
-stop : Out (List Item) → List Lexeme
-stop (Ok p) = []
-stop (Err (unfit at)) = []
-stop (Err (too_deep at)) = at
+pub params_more : (xs : List Decl) (d d1 d2 : ℕ) (ts mid rest : List Lexeme) (p : Place) (a : Decl) → same (look ts) k.Comma ≡ true → take_tok made.place_of k.Comma [] d ts ≡ Ok (p, mid, d1) → parse limit n.Parameter d1 mid ≡ Ok (a, rest, d2)
+    → params_after xs d ts ≡ params_after (xs ++ a ∷ []) d2 rest
+unfolding params_after
+params_more xs d d1 d2 ts mid rest p a e t h =
+    push_more {A = Decl} {B = Decl} (λ a. a) (λ more. more) (λ a more. refl) xs (parse limit n.MoreParameters d ts) (after_comma (parse limit n.Parameter) d ts) (parse limit n.MoreParameters) a rest d2 (params_turn d ts e) (comma_read (parse limit n.Parameter) d d1 d2 ts mid rest p a t h)
 
-first_place : (t u : Lexeme) (a b : List Lexeme) → t ∷ a ≡ u ∷ b → t.place ≡ u.place
-first_place t u a b e = let i : t ≡ u = cc in ap (λ z. z.place) i
+pub params_stop : (xs : List Decl) (d d1 : ℕ) (ts mid : List Lexeme) (p : Place) (at : Halt) → same (look ts) k.Comma ≡ true → take_tok made.place_of k.Comma [] d ts ≡ Ok (p, mid, d1) → parse limit n.Parameter d1 mid ≡ Err at → params_after xs d ts ≡ Err at
+unfolding params_after
+params_stop xs d d1 ts mid p at e t h = push_stop {A = Decl} {B = Decl} (λ more. more) xs (parse limit n.MoreParameters d ts) (after_comma (parse limit n.Parameter) d ts) (parse limit n.MoreParameters) at (params_turn d ts e) (comma_fails (parse limit n.Parameter) d d1 ts mid p at t h)
 
-stop_place : (t u : Lexeme) (a b : List Lexeme) (o : Out (List Item)) → o ≡ Err (too_deep (t ∷ a)) → o ≡ Err (too_deep (u ∷ b)) → t.place ≡ u.place
-unfolding stop
-stop_place t u a b o e f = first_place t u a b (sym (ap stop e) ∙ ap stop f)
+pub params_comma_stop : (xs : List Decl) (d : ℕ) (ts : List Lexeme) (at : Halt) → same (look ts) k.Comma ≡ true → take_tok made.place_of k.Comma [] d ts ≡ Err at → params_after xs d ts ≡ Err at
+unfolding params_after
+params_comma_stop xs d ts at e t = push_stop {A = Decl} {B = Decl} (λ more. more) xs (parse limit n.MoreParameters d ts) (after_comma (parse limit n.Parameter) d ts) (parse limit n.MoreParameters) at (params_turn d ts e) (comma_wants (parse limit n.Parameter) d ts at t)
 
-pub one_deep : OneDeep
-one_deep ts p q x y = x.here ∙ stop_place x.token y.token x.behind y.behind (parse limit n.Source 0 ts) (too_deep_only ts p x) (too_deep_only ts q y) ∙ sym y.here
+pub params_none : (xs : List Decl) (d : ℕ) (ts : List Lexeme) → same (look ts) k.Comma ≡ false → params_after xs d ts ≡ Ok (xs, ts, d)
+unfolding params_after
+params_none xs d ts e = push_none {A = Decl} {B = Decl} (λ more. more) xs (parse limit n.MoreParameters d ts) ts d (params_end d ts e) refl
 
-pub sources_have_levels : SourcesHaveLevels
-sources_have_levels ts items = (
-  λ x.
-      let l = levelled n.Source 0 ts items [] x in
-      (l.1, record { after = l.0; nests = l.2 }),
-  λ x. forget (call n.Source) 0 ts items [] x.1.after x.0 x.1.nests,
-)
+-- ---- items
+
+pub step_ending : (d : ℕ) (ts : List Lexeme) → parse limit n.Ending d ts ≡ steps n.Ending d ts
+step_ending d ts = parse_steps n.Ending d ts
+
+-- a function's parameters and body
+pub step_function : (d : ℕ) (ts : List Lexeme) → steps_of function d ts ≡ and_then (steps_of enclosed_parameters d ts) (λ params mid d1. and_then (parse limit n.Ending d1 mid) (λ body rest d2. Ok ((params, body), rest, d2)))
+step_function d ts = sym (fragment enclosed_parameters d ts (λ params mid d1. and_then (parse limit n.Ending d1 mid) (λ body rest d2. Ok ((params, body), rest, d2))))
+
+pub step_after_name : (d : ℕ) (ts : List Lexeme) (typed : Typed) (stars : ℕ) (name : Named) → through (λ f. f typed.start typed.base stars name) (parse limit n.AfterName d ts)
+    ≡ (if same (look ts) k.OpenParen then through (λ p. made.function_item typed.start typed.base stars name p.0 p.1) (steps_of function d ts) else globals typed stars name d ts)
+step_after_name d ts typed stars name =
+    let choose : (Place → Base → ℕ → Named → List Item) → List Item = λ f. f typed.start typed.base stars name in
+    let made_of : (List Decl × Option Stmt) → Place → Base → ℕ → Named → List Item = λ p. λ start base stars name. made.function_item start base stars name p.0 p.1 in
+    let rest_of : List Expr → Option Init → List InitDeclarator → Place → Base → ℕ → Named → List Item = λ counts init more. λ start base stars name. made.globals_of start false (made.typed_at start base) (made.initialised start stars name counts init) more in
+    ap (through choose) (parse_steps n.AfterName d ts)
+    ∙ through_if choose (same (look ts) k.OpenParen) _ _
+    ∙ if_first (same (look ts) k.OpenParen) _ _ _ (ap (through choose) (sym (fragment function d ts (λ p rest e. Ok (made_of p, rest, e)))) ∙ through_twice choose made_of (steps_of function d ts))
+    ∙ if_second (same (look ts) k.OpenParen) _ _ _ (then_push choose (parse limit n.Counts d ts) (λ counts mid d1. and_then (parse limit n.MaybeInit d1 mid) (λ init mid d2. and_then (parse limit n.MoreInitialised d2 mid) (λ more mid d3. and_then (take_tok made.place_of k.Semicolon [] d3 mid) (λ _ rest d4. Ok (rest_of counts init more, rest, d4)))))
+    ∙ then_ok (parse limit n.Counts d ts) _ _ (λ counts mid d1. then_push choose (parse limit n.MaybeInit d1 mid) (λ init mid d2. and_then (parse limit n.MoreInitialised d2 mid) (λ more mid d3. and_then (take_tok made.place_of k.Semicolon [] d3 mid) (λ _ rest d4. Ok (rest_of counts init more, rest, d4))))
+    ∙ then_ok (parse limit n.MaybeInit d1 mid) _ _ (λ init mid d2. last_push choose (rest_of counts init) (parse limit n.MoreInitialised d2 mid) (take_tok made.place_of k.Semicolon [])
+    ∙ ap (λ o. and_then o (λ all mid d3. and_then (take_tok made.place_of k.Semicolon [] d3 mid) (λ _ rest d4. Ok (all, rest, d4)))) (globals_begin typed.start false typed (made.initialised typed.start stars name counts init) d2 mid))))
+
+pub step_after_tag : (d : ℕ) (ts : List Lexeme) (start : Place) (tag : Named) → through (λ f. f start tag.name) (parse limit n.AfterTag d ts)
+    ≡ (if same (look ts) k.OpenBrace then through (λ all. made.struct_item start tag.name all) (steps_of ended_members d ts) else steps_of (named_item (made.typed_at start (b.Struct tag.name))) d ts)
+step_after_tag d ts start tag =
+    let choose : (Place → List ℕ → List Item) → List Item = λ f. f start tag.name in
+    let made_of : List Decl → Place → List ℕ → List Item = λ all. λ start tag. made.struct_item start tag all in
+    let named_of : ℕ → Named → (Place → Base → ℕ → Named → List Item) → Place → List ℕ → List Item = λ stars name f. λ start tag. f start (b.Struct tag) stars name in
+    ap (through choose) (parse_steps n.AfterTag d ts)
+    ∙ through_if choose (same (look ts) k.OpenBrace) _ _
+    ∙ if_first (same (look ts) k.OpenBrace) _ _ _ (ap (through choose) (sym (fragment ended_members d ts (λ all rest e. Ok (made_of all, rest, e)))) ∙ through_twice choose made_of (steps_of ended_members d ts))
+    ∙ if_second (same (look ts) k.OpenBrace) _ _ _ (then_push choose (parse limit (n.Stars 255) d ts) (λ stars mid d1. and_then (take_tok made.named_of k.Name [] d1 mid) (λ name mid d2. and_then (parse limit n.AfterName d2 mid) (λ f rest d3. Ok (named_of stars name f, rest, d3))))
+    ∙ then_ok (parse limit (n.Stars 255) d ts) _ _ (λ stars mid d1. then_push choose (take_tok made.named_of k.Name [] d1 mid) (λ name mid d2. and_then (parse limit n.AfterName d2 mid) (λ f rest d3. Ok (named_of stars name f, rest, d3)))
+    ∙ then_ok (take_tok made.named_of k.Name [] d1 mid) _ _ (λ name mid d2. through_twice choose (named_of stars name) (parse limit n.AfterName d2 mid))))
+
+pub name_function : (d : ℕ) (ts : List Lexeme) (typed : Typed) (stars : ℕ) (name : Named) → same (look ts) k.OpenParen ≡ true → through (λ f. f typed.start typed.base stars name) (parse limit n.AfterName d ts) ≡ through (λ p. made.function_item typed.start typed.base stars name p.0 p.1) (steps_of function d ts)
+name_function d ts typed stars name e = step_after_name d ts typed stars name ∙ rw e refl
+
+pub name_globals : (d : ℕ) (ts : List Lexeme) (typed : Typed) (stars : ℕ) (name : Named) → same (look ts) k.OpenParen ≡ false → through (λ f. f typed.start typed.base stars name) (parse limit n.AfterName d ts) ≡ globals typed stars name d ts
+name_globals d ts typed stars name e = step_after_name d ts typed stars name ∙ rw e refl
+
+pub tag_members : (d : ℕ) (ts : List Lexeme) (start : Place) (tag : Named) → same (look ts) k.OpenBrace ≡ true → through (λ f. f start tag.name) (parse limit n.AfterTag d ts) ≡ through (λ all. made.struct_item start tag.name all) (steps_of ended_members d ts)
+tag_members d ts start tag e = step_after_tag d ts start tag ∙ rw e refl
+
+pub tag_item : (d : ℕ) (ts : List Lexeme) (start : Place) (tag : Named) → same (look ts) k.OpenBrace ≡ false → through (λ f. f start tag.name) (parse limit n.AfterTag d ts) ≡ steps_of (named_item (made.typed_at start (b.Struct tag.name))) d ts
+tag_item d ts start tag e = step_after_tag d ts start tag ∙ rw e refl
+
+-- the members of a struct and `;`
+pub step_ended : (d : ℕ) (ts : List Lexeme) → steps_of ended_members d ts ≡ and_then (steps_of braced_members d ts) (λ all mid d1. and_then (take_tok made.place_of k.Semicolon [] d1 mid) (λ _ rest d2. Ok (all, rest, d2)))
+step_ended d ts = sym (fragment braced_members d ts (λ all mid d1. and_then (take_tok made.place_of k.Semicolon [] d1 mid) (λ _ rest d2. Ok (all, rest, d2))))
+
+pub step_external : (d : ℕ) (ts : List Lexeme) → parse limit n.External d ts ≡ (if same (look ts) k.Extern then external d ts
+    else (if same (look ts) k.Struct then and_then (take_tok made.place_of k.Struct [] d ts) (λ start mid d1. and_then (take_tok made.named_of k.Name [] d1 mid) (λ tag mid d2. and_then (parse limit n.AfterTag d2 mid) (λ f rest d3. Ok (f start tag.name, rest, d3))))
+    else and_then (parse limit n.PlainBase d ts) (λ typed mid d1. and_then (steps_of (named_item typed) d1 mid) (λ v rest d2. Ok (v, rest, d2)))))
+step_external d ts =
+    parse_steps n.External d ts
+    ∙ if_first (same (look ts) k.Extern) _ _ _ (then_ok (take_tok made.place_of k.Extern [] d ts) _ _ (λ start mid d1. then_ok (parse limit n.AnyBase d1 mid) _ _ (λ typed mid d2. then_ok (parse limit n.Initialised d2 mid) _ _ (λ first mid d3.
+    sym (then_through (λ more. made.globals_of start true typed first more) (parse limit n.MoreInitialised d3 mid) (λ all mid d4. and_then (take_tok made.place_of k.Semicolon [] d4 mid) (λ _ rest d5. Ok (all, rest, d5))))
+    ∙ ap (λ o. and_then o (λ all mid d4. and_then (take_tok made.place_of k.Semicolon [] d4 mid) (λ _ rest d5. Ok (all, rest, d5)))) (globals_begin start true typed first d3 mid)))))
+    ∙ if_second (same (look ts) k.Extern) _ _ _ (if_second (same (look ts) k.Struct) _ _ _ (then_ok (parse limit n.PlainBase d ts) _ _ (λ typed mid d1. sym (fragment (named_item typed) d1 mid (λ v rest d2. Ok (v, rest, d2))))))
+
+-- what reading items gives where some were read before
+unfoldable pub items_after : List Item → ℕ → List Lexeme → Out (List Item)
+items_after xs d ts = through (λ more. xs ++ more) (parse limit n.Source d ts)
+
+pub items_begin : (d : ℕ) (ts : List Lexeme) → parse limit n.Source d ts ≡ items_after [] d ts
+unfolding items_after
+items_begin d ts = from_none (parse limit n.Source d ts)
+
+items_turn : (d : ℕ) (ts : List Lexeme) → among (look ts) (begins n.External) ≡ true → parse limit n.Source d ts ≡ and_then (parse limit n.External d ts) (λ a mid d'. through (λ more. a ++ more) (parse limit n.Source d' mid))
+items_turn d ts e = parse_steps n.Source d ts ∙ rw e refl
+
+items_end : (d : ℕ) (ts : List Lexeme) → among (look ts) (begins n.External) ≡ false → parse limit n.Source d ts ≡ Ok ([], ts, d)
+items_end d ts e = parse_steps n.Source d ts ∙ rw e refl
+
+pub items_more : (xs : List Item) (d d' : ℕ) (ts mid : List Lexeme) (a : List Item) → among (look ts) (begins n.External) ≡ true → parse limit n.External d ts ≡ Ok (a, mid, d') → items_after xs d ts ≡ items_after (xs ++ a) d' mid
+unfolding items_after
+items_more xs d d' ts mid a e h = append_more {A = List Item} {B = Item} (λ a. a) xs (parse limit n.Source d ts) (parse limit n.External d ts) (parse limit n.Source) a mid d' (items_turn d ts e) h
+
+pub items_stop : (xs : List Item) (d : ℕ) (ts : List Lexeme) (at : Halt) → among (look ts) (begins n.External) ≡ true → parse limit n.External d ts ≡ Err at → items_after xs d ts ≡ Err at
+unfolding items_after
+items_stop xs d ts at e h = append_stop {A = List Item} {B = Item} (λ a. a) xs (parse limit n.Source d ts) (parse limit n.External d ts) (parse limit n.Source) at (items_turn d ts e) h
+
+pub items_none : (xs : List Item) (d : ℕ) (ts : List Lexeme) → among (look ts) (begins n.External) ≡ false → items_after xs d ts ≡ Ok (xs, ts, d)
+unfolding items_after
+items_none xs d ts e = append_none xs (parse limit n.Source d ts) ts d (items_end d ts e)

@@ -2,14 +2,6 @@ pub mod EarlyFault
 pub mod EarlyForm
 pub mod EarlyMeaning
 pub mod EarlyReading
-pub mod FormedLaw
-pub mod Grammar
-pub mod Lexemes
-pub mod Nesting
-pub mod Nodes
-pub mod Program
-pub mod Reading
-pub mod Rules
-pub mod SourceLaws
+pub mod Pieces
+pub mod Refusals
 pub mod Spelling
-pub mod WrittenLaws

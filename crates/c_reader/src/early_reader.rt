@@ -9,9 +9,6 @@ use crate::early_tokens::Cursor;
 use std::alloc::Global;
 use std::str;
 
-#[cfg(test)]
-mod tests;
-
 /// How many bytes a text has at most.
 const MOST_BYTES: usize = 65_536;
 

@@ -1,0 +1,3 @@
+pub mod NoToken
+pub mod Steps
+pub mod Climbs

@@ -1,0 +1,4 @@
+pub mod At
+pub mod Gives
+pub mod Levels
+pub mod Fragments

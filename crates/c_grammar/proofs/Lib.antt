@@ -1,0 +1,14 @@
+pub mod Checks
+pub mod Deepest
+pub mod FormedNodes
+pub mod FormedTrees
+pub mod Fronts
+pub mod Good
+pub mod Levels
+pub mod Relation
+pub mod SoundTokens
+pub mod Sources
+pub mod Steps
+pub mod Whole
+pub mod Words
+pub mod Written

@@ -1,0 +1,10 @@
+pub mod FormedLaw
+pub mod Grammar
+pub mod Lexemes
+pub mod Nesting
+pub mod Nodes
+pub mod Program
+pub mod Reading
+pub mod Rules
+pub mod SourceLaws
+pub mod WrittenLaws

@@ -1,5 +1,0 @@
-use Rattle.c_reader.proofs.Sources as sources
-use Rattle.c_reader.proofs.laws.a_source_has_one_tree.Goals as goal
-
-pub returns : goal.returns
-returns c = sources.one_tree

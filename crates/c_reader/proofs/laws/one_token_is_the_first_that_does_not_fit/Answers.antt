@@ -1,5 +1,0 @@
-use Rattle.c_reader.proofs.Sources as sources
-use Rattle.c_reader.proofs.laws.one_token_is_the_first_that_does_not_fit.Goals as goal
-
-pub returns : goal.returns
-returns c = sources.one_bad

@@ -1,5 +1,0 @@
-use Rattle.c_reader.proofs.Written as proof
-use Rattle.c_reader.proofs.laws.operators_bind_from_the_left.Goals as goal
-
-pub returns : goal.returns
-returns c = proof.binary_as_written

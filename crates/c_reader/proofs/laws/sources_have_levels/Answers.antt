@@ -1,5 +1,0 @@
-use Rattle.c_reader.proofs.Sources as sources
-use Rattle.c_reader.proofs.laws.sources_have_levels.Goals as goal
-
-pub returns : goal.returns
-returns c = sources.sources_have_levels
