@@ -1,5 +1,8 @@
 //! Sources in files.
+use c_check::read_source;
+use c_reader::read;
 use c_tokens::tokens;
+use c_tree::{Tree, nodes};
 use std::alloc::Global;
 use std::rt::Files;
 use std::{fs, io};
@@ -15,6 +18,44 @@ pub fn tokens_line<R: Files + Alloc<A = Global>>(rt: &R, path: &str) -> io::Resu
             let count = found.len();
             Ok(format!(in rt.alloc(); "{count}")?)
         }
+        Err(fault) => Ok(format!(in rt.alloc(); "{fault}")?),
+    }
+}
+
+/// The tree of the program in a file, or the line that tells its first fault with its place.
+fn tree_in<R: Files + Alloc<A = Global>>(rt: &R, path: &str) -> io::Result<Result<Tree, String>> {
+    let bytes = fs::read(rt, path)?;
+    if bytes.len() > 536_870_912 {
+        return Ok(Err(String::from_str(rt.alloc(), "FileLarge")?));
+    }
+    let found = match tokens(rt.alloc(), bytes.as_slice(), 0) {
+        Ok(found) => found,
+        Err(fault) => return Ok(Err(format!(in rt.alloc(); "{fault}")?)),
+    };
+    match read(rt.alloc(), found.as_slice(), bytes.as_slice()) {
+        Ok(tree) => Ok(Ok(tree)),
+        Err(fault) => Ok(Err(format!(in rt.alloc(); "{fault}")?)),
+    }
+}
+
+/// How many nodes the program in a file has, or its first fault with its place.
+pub fn read_line<R: Files + Alloc<A = Global>>(rt: &R, path: &str) -> io::Result<String> {
+    let tree = match tree_in(rt, path)? {
+        Ok(tree) => tree,
+        Err(line) => return Ok(line),
+    };
+    let count = nodes(&tree);
+    Ok(format!(in rt.alloc(); "nodes {count}")?)
+}
+
+/// `accepted`, or the first refusal of the source in a file with its place.
+pub fn check_line<R: Files + Alloc<A = Global>>(rt: &R, path: &str) -> io::Result<String> {
+    let tree = match tree_in(rt, path)? {
+        Ok(tree) => tree,
+        Err(line) => return Ok(line),
+    };
+    match read_source(rt.alloc(), &tree, 32_768) {
+        Ok(_known) => Ok(String::from_str(rt.alloc(), "accepted")?),
         Err(fault) => Ok(format!(in rt.alloc(); "{fault}")?),
     }
 }

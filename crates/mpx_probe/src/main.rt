@@ -1,27 +1,30 @@
-//! Lets scripts reach the libraries: `decode`, `recode`, `step` and `mpx` read lines of hexadecimal bytes, `tokens` reads a file,
-//! `speed` repeats one call.
+//! Lets scripts reach the libraries: `decode`, `recode`, `step` and `mpx` read lines of hexadecimal bytes, `tokens`, `read` and `check`
+//! a file, and `speed` repeats one call.
 //!
 //! `decode` prints `LENGTH FORM`, `Undefined` or `Short N` for each line, and `recode` the bytes of the spelling of what it
 //! read, or the same refusals. `step` reads `CODE STATE` and prints `STATE RESULT` after one instruction that isn't of MPX: a
 //! state is rip, the registers by number, an address, a byte of flags (CF is 1, ZF 2, SF 4, OF 8), and the 64 bytes of memory
 //! from that address on, with the lowest byte of a number first. `mpx` does the same for an MPX instruction, or tells what a near
 //! branch makes of the bounds registers: its states have the bounds registers and three windows of memory (`src/mpx.rt`).
-//! `tokens FILE` prints the number of the file's tokens, or `KIND LINE:COL`. `speed CALL N` does
-//! so many calls and prints how many were done: `decode`, `encode`; loads and stores of memory within a page (`load-one`,
-//! `store-one`) and over 10,000 pages (`load-many`, `store-many`); a free and an alloc among 65,536 live blocks (`heap`), and
-//! an alloc and a free behind 32,767 small free ranges (`heap-gaps`). `speed touch N` touches so many pages and prints how many
-//! frames are in use.
+//! `layout` reads lines of structs and prints their sizes, alignments and the offsets of their members (`src/layout.rt`).
+//! `tokens FILE` prints the number of the file's tokens, `read FILE` `nodes N`, the number of its tree's nodes, and `check FILE`
+//! `accepted`; or each the first refusal, `KIND LINE:COL`. `speed CALL N` does so many calls and prints how many were done: `decode`,
+//! `encode`; loads and stores of memory within a page (`load-one`, `store-one`) and over 10,000 pages (`load-many`, `store-many`); a
+//! free and an alloc among 65,536 live blocks (`heap`), and an alloc and a free behind 32,767 small free ranges (`heap-gaps`).
+//! `speed touch N` touches so many pages and prints how many frames are in use.
 #![tactic(auto)]
 
 mod files;
 mod instructions;
+mod layout;
 mod memory;
 mod mpx;
 mod speed;
 mod step;
 
-use files::tokens_line;
+use files::{check_line, read_line, tokens_line};
 use instructions::{decode_line, recode_line};
+use layout::layout_line;
 use memory::{gaps_often, heap_often, load_often, store_often, touch_pages};
 use mpx::mpx_line;
 use mx_base::OutOfMemory;
@@ -50,6 +53,7 @@ fn each_line<R: Input + Print + Alloc<A = Global>>(rt: &R, command: &str) -> io:
         "recode" => Answer::Bytes,
         "step" => Answer::State,
         "mpx" => Answer::Bounds,
+        "layout" => Answer::Layout,
         _ => return Ok(false),
     };
     for line in rt.lines(rt.alloc()) {
@@ -67,6 +71,7 @@ enum Answer {
     Bytes,
     State,
     Bounds,
+    Layout,
 }
 
 fn answer_line(alloc: Global, answer: Answer, line: &str) -> Result<String, AllocError> {
@@ -75,6 +80,7 @@ fn answer_line(alloc: Global, answer: Answer, line: &str) -> Result<String, Allo
         Answer::Bytes => recode_line(alloc, line),
         Answer::State => step_line(alloc, line),
         Answer::Bounds => mpx_line(alloc, line),
+        Answer::Layout => layout_line(alloc, line),
     }
 }
 
@@ -86,6 +92,8 @@ fn of_file<R: Files + Print + Alloc<A = Global>>(
 ) -> io::Result<bool> {
     let line = match command {
         "tokens" => tokens_line(rt, path)?,
+        "read" => read_line(rt, path)?,
+        "check" => check_line(rt, path)?,
         _ => return Ok(false),
     };
     println!(rt; "{line}")?;

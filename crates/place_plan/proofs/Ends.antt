@@ -24,7 +24,7 @@ pub next_ends : (structs : List StructType) → ((type : CType) → 1 ≤ (layou
     → (free_after (values_of v.taken v.type) (layout_of structs v.type) free).byte ≤ (free_after_all structs free (v ∷ vs)).byte
 next_ends structs some free v vs = ends_grow structs some (free_after (values_of v.taken v.type) (layout_of structs v.type) free) vs
 
-end_grows : (defined : Bool) (layout : Layout) (free : ℕ) → 1 ≤ layout.align → free ≤ end_after defined layout free
+pub end_grows : (defined : Bool) (layout : Layout) (free : ℕ) → 1 ≤ layout.align → free ≤ end_after defined layout free
 end_grows true layout free some = omega (arith, next_enough free layout.align some)
 end_grows false layout free some = omega arith
 

@@ -1,2 +1,3 @@
+pub mod Apart
+mod DataApart
 pub mod Ends
-mod Apart

@@ -1,9 +1,9 @@
 //! The data of a source.
 
-ghost use Rattle.std.specs.Prelude.{◌≡◌, ◌≤◌, All, IfOk};
+ghost use Rattle.std.specs.Prelude.{◌≡◌, ◌+◌, ◌≤◌, All, IfOk, sum};
 ghost use Rattle.c_types.specs.Types.{structs_of};
 ghost use Rattle.c_types.specs.Layouts.{layout_at};
-ghost use Rattle.place_plan.specs.Data.{offset_at, end_after, offsets_from, globals_end};
+ghost use Rattle.place_plan.specs.Data.{offset_at, end_after, offsets_from, globals_end, literals_from};
 ghost use Rattle.place_plan.specs.Globals.{globals_of, CanBeLaid};
 
 use crate::frames::round_up;
@@ -58,5 +58,19 @@ pub fn place_globals(
         free = end;
     }
     let offsets = Items::from_vec(offsets);
+    Ok(offsets)
+}
+
+/// Where text literals of these sizes stand, one behind another from a byte on. All data has at most 16,777,216 bytes.
+pub fn place_literals(alloc: Global, free: u32, sizes: &[u32]) -> Result<Items<u32>, OutOfMemory>
+    requires small { free + sum sizes.now ≤ 16777216 }
+    ensures { IfOk result (λ offsets. offsets ≡ literals_from free sizes.now) }
+{
+    let mut offsets = Items::new(alloc);
+    let mut next = free;
+    'sizes: for size in sizes {
+        offsets.push(next)?;
+        next += *size;
+    }
     Ok(offsets)
 }

@@ -1,12 +1,12 @@
 //! Laws of frames. Each function does nothing of its own, and its contract is the law.
 
-ghost use Rattle.std.specs.Prelude.{◌≡◌, ℕ, ◌+◌, ◌%◌, ◌<◌, ◌≤◌, List, [], ◌∷◌, true, false, Some, slice_get};
+ghost use Rattle.std.specs.Prelude.{◌≡◌, ℕ, ◌+◌, ◌%◌, ◌<◌, ◌≤◌, List, [], ◌∷◌, true, false, Some, slice_get, sum};
 ghost use Rattle.mx_base.specs.declared.numbers.IntKind.TheVariants as IntKind;
 ghost use Rattle.c_types.specs.Types.{Void, Int, Pointer, Array, StructType};
 ghost use Rattle.c_types.specs.Layouts.{layout_of};
 ghost use Rattle.place_plan.specs.declared.plan.Spot.{Spot as SpotOf};
 ghost use Rattle.place_plan.specs.Frames.{Variable, variable, values_of, frame_plan};
-ghost use Rattle.place_plan.specs.Data.{global, offsets_from, globals_end, literals_from};
+ghost use Rattle.place_plan.specs.Data.{Global, global, offsets_from, globals_end, literals_from};
 
 use c_types::sizes_are_multiples;
 
@@ -18,6 +18,19 @@ pub fn variables_stand_apart()
     ensures whole { (structs : List StructType) (vs : List Variable) → (frame_plan structs vs).size % 16 ≡ 0 }
     ensures apart { (structs : List StructType) (vs : List Variable) (i j o p : ℕ) (v w : Variable) → i < j → slice_get vs i ≡ Some v → slice_get vs j ≡ Some w → slice_get (frame_plan structs vs).spots i ≡ Some (SpotOf.Frame o) → slice_get (frame_plan structs vs).spots j ≡ Some (SpotOf.Frame p) → o + (layout_of structs v.type).size ≤ p }
     ensures values { (structs : List StructType) (vs : List Variable) (i j x y : ℕ) (v : Variable) → i < j → slice_get vs i ≡ Some v → slice_get (frame_plan structs vs).spots i ≡ Some (SpotOf.Private x) → slice_get (frame_plan structs vs).spots j ≡ Some (SpotOf.Private y) → x + values_of v.taken v.type ≤ y }
+{
+    sizes_are_multiples();
+}
+
+/// The globals that a source defines stand in order, none over another, each at a multiple of its alignment, and its text literals behind them
+/// without a byte between them, so that all lie within the bytes of its data.
+pub fn data_stands_apart()
+    ensures aligned { (structs : List StructType) (gs : List Global) (i o : ℕ) (g : Global) → slice_get gs i ≡ Some g → g.defined ≡ true → slice_get (offsets_from structs 0 gs) i ≡ Some o → o % (layout_of structs g.type).align ≡ 0 }
+    ensures within { (structs : List StructType) (gs : List Global) (i o : ℕ) (g : Global) → slice_get gs i ≡ Some g → g.defined ≡ true → slice_get (offsets_from structs 0 gs) i ≡ Some o → o + (layout_of structs g.type).size ≤ globals_end structs 0 gs }
+    ensures apart { (structs : List StructType) (gs : List Global) (i j o p : ℕ) (g h : Global) → i < j → slice_get gs i ≡ Some g → slice_get gs j ≡ Some h → g.defined ≡ true → h.defined ≡ true → slice_get (offsets_from structs 0 gs) i ≡ Some o → slice_get (offsets_from structs 0 gs) j ≡ Some p → o + (layout_of structs g.type).size ≤ p }
+    ensures behind { (free : ℕ) (sizes : List ℕ) (i o : ℕ) → slice_get (literals_from free sizes) i ≡ Some o → free ≤ o }
+    ensures literals_within { (free : ℕ) (sizes : List ℕ) (i o n : ℕ) → slice_get sizes i ≡ Some n → slice_get (literals_from free sizes) i ≡ Some o → o + n ≤ free + sum sizes }
+    ensures literals_apart { (free : ℕ) (sizes : List ℕ) (i j o p n : ℕ) → i < j → slice_get sizes i ≡ Some n → slice_get (literals_from free sizes) i ≡ Some o → slice_get (literals_from free sizes) j ≡ Some p → o + n ≤ p }
 {
     sizes_are_multiples();
 }

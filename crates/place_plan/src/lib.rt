@@ -5,10 +5,8 @@ mod data;
 mod frames;
 mod laws;
 mod plan;
-#[cfg(test)]
-mod tests;
 
-pub use data::{GlobalVariable, place_globals};
+pub use data::{GlobalVariable, place_globals, place_literals};
 pub use frames::{Local, place_locals};
-pub use laws::{small_plans_stand_so, variables_stand_apart};
+pub use laws::{data_stands_apart, small_plans_stand_so, variables_stand_apart};
 pub use plan::{FramePlan, Plan, Spot};

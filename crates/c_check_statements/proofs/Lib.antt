@@ -1,0 +1,6 @@
+pub mod Counting
+pub mod Declaring
+pub mod Filling
+pub mod Forms
+pub mod Steps
+pub mod Blocks

@@ -1,0 +1,12 @@
+use Rattle.std.proofs.Common.{refl, rules}
+use Rattle.c_check_statements.proofs.Declaring.{of_counts, counts_stop, judge_stop, judge_ends}
+use Rattle.c_check_statements.proofs.decls.declare_member.Goals as goal
+
+pub returns-in_err-counts : goal.returns-in_err-counts
+returns-in_err-counts c = counts_stop _ _ _ _ _ _ (of_counts _ c.as_slice.ensures c.in_err-counts.ensures) (search rules)
+
+pub returns-in_err-kind : goal.returns-in_err-kind
+returns-in_err-kind c = judge_stop _ _ _ _ _ _ _ _ (of_counts _ c.as_slice.ensures c.in_ok-counts.ensures) refl refl c.in_err-kind.ensures (search rules)
+
+pub returns : goal.returns
+returns c = judge_ends _ _ _ _ _ _ _ _ (of_counts _ c.as_slice.ensures c.in_ok-counts.ensures) refl refl c.in_ok-kind.ensures (search rules)

@@ -1,0 +1,11 @@
+pub mod Counts
+pub mod Declarations
+pub mod Frames
+pub mod Functions
+pub mod Initialisers
+pub mod Placing
+pub mod Sources
+pub mod Statements
+pub mod Structs
+pub mod Waits
+pub mod Walks

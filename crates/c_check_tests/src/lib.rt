@@ -1,0 +1,5 @@
+//! Tests of the checks of a source (`c_check`). They stand apart, since a crate with tests is proved twice.
+#![tactic(auto)]
+
+#[cfg(test)]
+mod checks;

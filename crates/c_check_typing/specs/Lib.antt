@@ -1,0 +1,4 @@
+pub mod Refusals
+pub mod Notes
+pub mod Rules
+pub mod Expressions

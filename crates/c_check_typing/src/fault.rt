@@ -1,0 +1,110 @@
+//! Why a tree is no program.
+
+ghost use Rattle.std.specs.Prelude.{◌≡◌};
+ghost use Rattle.c_check_typing.specs.declared.fault.CheckFault.TheVariants.{OutOfMemory};
+
+use mx_base::{OutOfMemory, Place};
+use std::alloc::{AllocError, AllocFailed};
+use std::error::Error;
+use std::fmt;
+
+/// A rule that a node breaks.
+#[derive(Clone, Copy, Debug, PartialEq, Eq)]
+pub enum CheckKind {
+    /// The source has more nodes than there is room for.
+    TooLarge,
+    /// A tag, member, variable or function that is not there.
+    Unknown,
+    /// A name that its scope has already.
+    Twice,
+    /// Types that do not go together, and whatever has no other kind.
+    BadType,
+    /// An array's count, or the size of a type, that is outside its limits.
+    BadCount,
+    /// Something that is no place where one is needed.
+    NotPlace,
+    /// Something that is no constant where one is needed.
+    NotConst,
+    /// A function with more than four pointers among its parameters.
+    ManyPointers,
+    /// A function with more than six parameters.
+    ManyParams,
+    /// An assignment of a struct, or a local array or struct with an initialiser, of more than 64 scalars.
+    LargeCopy,
+    /// A function with too many private variables or waiting values, or too large a data frame.
+    FrameLarge,
+    /// Too many bytes of data.
+    LargeData,
+}
+
+/// A broken rule, and the place of the node that breaks it.
+#[derive(Clone, Copy, Debug, PartialEq, Eq)]
+pub struct Broken {
+    pub kind: CheckKind,
+    pub place: Place,
+}
+
+/// Why a tree is no program: the first broken rule by its node's place, or that memory of the host is not to be had.
+#[derive(Clone, Copy, Debug, PartialEq, Eq)]
+pub enum CheckFault {
+    Refused { kind: CheckKind, place: Place },
+    OutOfMemory,
+}
+
+impl fmt::Display for CheckKind {
+    fn fmt<W: fmt::Write>(&self, f: &mut fmt::Formatter<W>) -> fmt::Result {
+        f.write_str(match self {
+            CheckKind::TooLarge => "TooLarge",
+            CheckKind::Unknown => "Unknown",
+            CheckKind::Twice => "Twice",
+            CheckKind::BadType => "BadType",
+            CheckKind::BadCount => "BadCount",
+            CheckKind::NotPlace => "NotPlace",
+            CheckKind::NotConst => "NotConst",
+            CheckKind::ManyPointers => "ManyPointers",
+            CheckKind::ManyParams => "ManyParams",
+            CheckKind::LargeCopy => "LargeCopy",
+            CheckKind::FrameLarge => "FrameLarge",
+            CheckKind::LargeData => "LargeData",
+        })
+    }
+}
+
+impl fmt::Display for CheckFault {
+    fn fmt<W: fmt::Write>(&self, f: &mut fmt::Formatter<W>) -> fmt::Result {
+        match self {
+            CheckFault::Refused { kind, place } => {
+                let line = place.line;
+                let col = place.col;
+                write!(f, "{kind} {line}:{col}")
+            }
+            CheckFault::OutOfMemory => f.write_str("no memory"),
+        }
+    }
+}
+
+impl Error for CheckFault {}
+
+impl From<OutOfMemory> for CheckFault {
+    ghost from_gives = { λ _ fault. fault ≡ OutOfMemory };
+
+    fn from(_error: OutOfMemory) -> CheckFault {
+        CheckFault::OutOfMemory
+    }
+}
+
+impl From<AllocError> for CheckFault {
+    ghost from_gives = { λ _ fault. fault ≡ OutOfMemory };
+
+    fn from(_error: AllocError) -> CheckFault {
+        CheckFault::OutOfMemory
+    }
+}
+
+impl<T: Drop> From<AllocFailed<T>> for CheckFault {
+    ghost from_gives = { λ _ fault. fault ≡ OutOfMemory };
+
+    fn from(_error: AllocFailed<T>) -> CheckFault {
+        CheckFault::OutOfMemory
+    }
+}

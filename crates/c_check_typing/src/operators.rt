@@ -1,0 +1,226 @@
+//! Operators.
+
+ghost use Rattle.std.specs.Prelude.{◌≡◌};
+ghost use Rattle.c_check_rules.specs.Kinds.{outer_of};
+ghost use Rattle.c_check_typing.specs.Notes.{Ends, took_note};
+ghost use Rattle.c_check_typing.specs.Rules as rule;
+
+use crate::fault::{CheckFault, CheckKind};
+use crate::typed::{Notes, Typed, end_fine, end_wrong, is_address, place_of, value};
+use c_check_rules::{
+    Constant, Outer, Scope, Type, binary_kind, choice_kind, choose, common, fold_binary,
+    fold_unary, is_inner_sized, is_scalar, promoted,
+};
+use mx_base::{IntKind, Place};
+use std::alloc::Global;
+
+/// Ends a node by the type that an operator gives, or as a broken rule of types where it gives none.
+fn end_of_kind(
+    alloc: Global,
+    notes: &mut Notes,
+    place: Place,
+    kind: Option<Type>,
+    constant: Constant,
+) -> Result<Typed, CheckFault>
+    ensures { Ends (rule.of_kind kind constant) place notes.old result notes.new }
+{
+    match kind {
+        Some(kind) => end_fine(alloc, notes, place, value(kind, constant)),
+        None => end_wrong(place, CheckKind::BadType),
+    }
+}
+
+fn end_sign(
+    alloc: Global,
+    notes: &mut Notes,
+    place: Place,
+    op: u8,
+    a: &Typed,
+) -> Result<Typed, CheckFault>
+    ensures { Ends (rule.sign_own op (outer_of a.now.kind) a.now.constant) place notes.old result notes.new }
+{
+    match a.kind.outer() {
+        Outer::Int(k) => {
+            let kind = promoted(k);
+            let constant = fold_unary(op, kind, a.constant);
+            end_fine(alloc, notes, place, value(Type::int(alloc, kind), constant))
+        }
+        Outer::Void => end_wrong(place, CheckKind::BadType),
+        Outer::Pointer => end_wrong(place, CheckKind::BadType),
+        Outer::Array(_) => end_wrong(place, CheckKind::BadType),
+        Outer::Struct(_) => end_wrong(place, CheckKind::BadType),
+    }
+}
+
+fn not_constant(form: Outer, constant: Constant) -> Constant
+    ensures { result ≡ rule.not_constant form constant }
+{
+    match form {
+        Outer::Int(k) => fold_unary(2, k, constant),
+        Outer::Void => Constant::No,
+        Outer::Pointer => Constant::No,
+        Outer::Array(_) => Constant::No,
+        Outer::Struct(_) => Constant::No,
+    }
+}
+
+fn end_not(alloc: Global, notes: &mut Notes, place: Place, a: &Typed) -> Result<Typed, CheckFault>
+    ensures { Ends (rule.not_own a.now) place notes.old result notes.new }
+{
+    let kind = a.decayed(alloc)?;
+    if is_scalar(&kind) {
+        let constant = not_constant(a.kind.outer(), a.constant);
+        end_fine(
+            alloc,
+            notes,
+            place,
+            value(Type::int(alloc, IntKind::I32), constant),
+        )
+    } else {
+        end_wrong(place, CheckKind::BadType)
+    }
+}
+
+fn end_target(
+    alloc: Global,
+    scope: &Scope,
+    notes: &mut Notes,
+    place: Place,
+    a: &Typed,
+) -> Result<Typed, CheckFault>
+    ensures { Ends (rule.target_own scope.now.structs a.now) place notes.old result notes.new }
+{
+    if is_address(a.kind.outer()) && is_inner_sized(scope.structs.as_slice(), &a.kind) {
+        let target = a.kind.inner(alloc)?;
+        end_fine(alloc, notes, place, place_of(target))
+    } else {
+        end_wrong(place, CheckKind::BadType)
+    }
+}
+
+fn note_taken(notes: &mut Notes, local: Option<u32>) -> Result<(), CheckFault>
+    ensures { took_note local notes.old result notes.new }
+{
+    if let Some(local) = local {
+        notes.taken.push(local)?;
+    }
+    Ok(())
+}
+
+fn end_address(
+    alloc: Global,
+    notes: &mut Notes,
+    place: Place,
+    a: &Typed,
+) -> Result<Typed, CheckFault>
+    ensures { Ends (rule.address_own a.now) place notes.old result notes.new }
+{
+    if !a.is_place {
+        return end_wrong(place, CheckKind::NotPlace);
+    }
+    let kind = a.kind.pointer_to(alloc)?;
+    note_taken(notes, a.local)?;
+    end_fine(alloc, notes, place, value(kind, Constant::No))
+}
+
+/// Ends `-`, `~`, `!`, `*` or `&`, by its place in this list.
+#[tactic(auto, unfolding(crate::specs::Rules::unary_own))]
+pub fn end_unary(
+    alloc: Global,
+    scope: &Scope,
+    notes: &mut Notes,
+    place: Place,
+    op: u8,
+    a: Typed,
+) -> Result<Typed, CheckFault>
+    ensures { Ends (rule.unary_own scope.now.structs op a) place notes.old result notes.new }
+{
+    if op == 4 {
+        end_address(alloc, notes, place, &a)
+    } else if op == 3 {
+        end_target(alloc, scope, notes, place, &a)
+    } else if op == 2 {
+        end_not(alloc, notes, place, &a)
+    } else {
+        end_sign(alloc, notes, place, op, &a)
+    }
+}
+
+fn done_in(op: u8, k: IntKind, l: IntKind) -> IntKind
+    ensures { result ≡ rule.done_in op k l }
+{
+    if 4 < op && op < 7 {
+        promoted(k)
+    } else {
+        common(k, l)
+    }
+}
+
+fn binary_constant(op: u8, a: &Typed, b: &Typed) -> Constant
+    ensures { result ≡ rule.binary_constant op (outer_of a.now.kind) (outer_of b.now.kind) a.now.constant b.now.constant }
+{
+    match a.kind.outer() {
+        Outer::Int(k) => match b.kind.outer() {
+            Outer::Int(l) => fold_binary(op, done_in(op, k, l), a.constant, b.constant),
+            Outer::Void | Outer::Pointer | Outer::Array(_) | Outer::Struct(_) => Constant::No,
+        },
+        Outer::Void | Outer::Pointer | Outer::Array(_) | Outer::Struct(_) => Constant::No,
+    }
+}
+
+/// Ends an operator of two operands, by its place in the list that begins with `*`.
+#[tactic(auto, unfolding(crate::specs::Rules::binary_own))]
+pub fn end_binary(
+    alloc: Global,
+    scope: &Scope,
+    notes: &mut Notes,
+    place: Place,
+    op: u8,
+    a: Typed,
+    b: Typed,
+) -> Result<Typed, CheckFault>
+    ensures { Ends (rule.binary_own scope.now.structs op a b) place notes.old result notes.new }
+{
+    let left = a.decayed(alloc)?;
+    let right = b.decayed(alloc)?;
+    let zeros = (a.is_zero, b.is_zero);
+    let kind = binary_kind(alloc, scope.structs.as_slice(), op, &left, &right, zeros)?;
+    end_of_kind(alloc, notes, place, kind, binary_constant(op, &a, &b))
+}
+
+fn choice_constant(test: &Typed, a: &Typed, b: &Typed) -> Constant
+    ensures { result ≡ rule.choice_constant (outer_of test.now.kind) (outer_of a.now.kind) (outer_of b.now.kind) test.now.constant a.now.constant b.now.constant }
+{
+    let Outer::Int(_) = test.kind.outer() else {
+        return Constant::No;
+    };
+    let Outer::Int(k) = a.kind.outer() else {
+        return Constant::No;
+    };
+    let Outer::Int(l) = b.kind.outer() else {
+        return Constant::No;
+    };
+    choose(common(k, l), test.constant, a.constant, b.constant)
+}
+
+/// Ends `?:`.
+#[tactic(auto, unfolding(crate::specs::Rules::choice_own))]
+pub fn end_choice(
+    alloc: Global,
+    notes: &mut Notes,
+    place: Place,
+    test: Typed,
+    a: Typed,
+    b: Typed,
+) -> Result<Typed, CheckFault>
+    ensures { Ends (rule.choice_own test a b) place notes.old result notes.new }
+{
+    let tested = test.decayed(alloc)?;
+    if !is_scalar(&tested) {
+        return end_wrong(place, CheckKind::BadType);
+    }
+    let left = a.decayed(alloc)?;
+    let right = b.decayed(alloc)?;
+    let kind = choice_kind(alloc, &left, &right, (a.is_zero, b.is_zero))?;
+    end_of_kind(alloc, notes, place, kind, choice_constant(&test, &a, &b))
+}
