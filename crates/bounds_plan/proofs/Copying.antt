@@ -24,7 +24,9 @@ use Rattle.bounds_plan.specs.Core.{Word, Null, Scalar, Effect}
 use Rattle.bounds_plan.specs.Laws.{AllInside, OfEffect, OfCopies}
 use Rattle.bounds_plan.specs.ElaborateScalars.{scalars_of, scalar_at}
 use Rattle.bounds_plan.specs.ElaborateTypes.{Value, Numeric, Address, pointer_in, Sort, ANumber, APointer, AWhole, NoValue, sort_of, kind_of, size_in, given}
-use Rattle.bounds_plan.specs.ElaborateSource.{Meant, Global, Local, Fun, Service, Builtin, Meanings, SourceLayout, Reached, Signature, Around, kind_at, bind_at, local_number}
+use Rattle.c_check_rules.specs.declared.predeclared.Bind.{Bind}
+use Rattle.c_check_rules.specs.declared.predeclared.Bind.TheVariants.{Global, Local, Fun, Service, Builtin}
+use Rattle.bounds_plan.specs.ElaborateSource.{Meanings, SourceLayout, Reached, Signature, Around, kind_at, bind_at, local_number}
 use Rattle.bounds_plan.specs.ElaboratePlaces.{Lvalue, InMemory, address_in, read_as, written_as}
 use Rattle.bounds_plan.specs.ElaborateExpressions.{Found, Reading, effect_of, no_place, a_place, named, negative, inverse, is_zero, unary, assigned, assignment_effect, assign_by, step, expression}
 use Rattle.bounds_plan.specs.ElaborateInitialisers.{Filling, part_at, zero_as, zero_written, zeros, member_zeros, text_filled, bytes_of, one_filled, elements_filled, members_filled, many_filled, init_step, initialiser}
@@ -59,7 +61,7 @@ either_whole : (b : Bool) (f g : Found) → Whole f → Whole g → Whole (if b 
 either_whole true f g h k = h
 either_whole false f g h k = k
 
-named_whole : (around : Around) (type : CType) (m : Meant) (place : Place) (after : Reached) → Whole (named around type m place after)
+named_whole : (around : Around) (type : CType) (m : Bind) (place : Place) (after : Reached) → Whole (named around type m place after)
 named_whole around type (Global number) place after = a_place_whole type _ place after
 named_whole around type (Local number) place after = a_place_whole type _ place after
 named_whole around type (Fun number) place after = no_place_whole type _ place after

@@ -12,7 +12,9 @@ use Rattle.c_types.specs.Types.{CType, Void, StructType}
 use Rattle.bounds_plan.specs.Core.{NumberExpr, Word, Convert, PointerExpr, Arguments}
 use Rattle.bounds_plan.specs.Follows.{count, IsNumber, IsPointer, Fits, FitsPtr, FitsAll, FitsEffect}
 use Rattle.bounds_plan.specs.ElaborateTypes.{Value, Numeric, Address, number_in, pointer_in, Sort, ANumber, APointer, AWhole, NoValue, sort_of, kind_of, step_in, promoted, common, done_in, keeps, converted, right_operand, wanted_pointer, given_as, given, cast_as}
-use Rattle.bounds_plan.specs.ElaborateSource.{Meant, Global, Local, Fun, Service, Builtin, Reached, Signature, Around, kind_at, bind_at}
+use Rattle.c_check_rules.specs.declared.predeclared.Bind.{Bind}
+use Rattle.c_check_rules.specs.declared.predeclared.Bind.TheVariants.{Global, Local, Fun, Service, Builtin}
+use Rattle.bounds_plan.specs.ElaborateSource.{Reached, Signature, Around, kind_at, bind_at}
 use Rattle.bounds_plan.specs.ElaboratePlaces.{Lvalue, NumberVariable, PointerVariable, InMemory, address_in, loaded_as, read_as, stored_as, written_as, changed_at, changed_as, variable_of}
 use Rattle.bounds_plan.specs.ElaborateExpressions.{Found, Reading, effect_of, no_place, a_place, symbol_of, named, promoted_number, negative, inverse, is_zero, unary, calculated, arithmetic, compared, binary_as, binary, chosen_as, assigned, struct_copied, assignment_effect, compound_at, changed, assign_by, stepped_by, find_all, with_argument, arguments_for, called_as, argument_at, number_of_argument, pointer_of_argument, served, built_in, function_called, called, member, arrow, index, step, expression}
 use Rattle.bounds_plan.proofs.Inductions.{ExprA, ExprB, bare_exprs, every_exprs}
@@ -140,7 +142,7 @@ module _ (private : ℕ) (is_bounds : ℕ → Bool) (takes : ℕ → ℕ) where
   a_place_fits : (type : CType) (l : Lvalue) (place : Place) (after : Reached) → FitsPlace l → FitsFound (a_place type l place after)
   a_place_fits type l place after h = record { value = read_fits (sort_of type) place l h; lvalue = h; effect = effect_fits (read_as (sort_of type) place l) (read_fits (sort_of type) place l h) }
 
-  named_fits : (around : Around) → Ready around → (type : CType) (m : Meant) (place : Place) (after : Reached) → FitsFound (named around type m place after)
+  named_fits : (around : Around) → Ready around → (type : CType) (m : Bind) (place : Place) (after : Reached) → FitsFound (named around type m place after)
   named_fits around ready type (Global number) place after = a_place_fits type _ place after tt
   named_fits around ready type (Local number) place after = a_place_fits type (variable_of around.structs around.variables around.stands 0 number) place after (ready.variables number)
   named_fits around ready type (Fun number) place after = no_place_fits type _ place after tt
@@ -289,7 +291,7 @@ module _ (private : ℕ) (is_bounds : ℕ → Bool) (takes : ℕ → ℕ) where
       (either_pointer (number == 2) _ _ (pointer_argument_fits 0 all h, pointer_argument_fits 1 all h) (either_pointer (number == 3) _ _ (pointer_argument_fits 0 all h)
       (either_pointer (number == 4) _ _ (pointer_argument_fits 0 all h) (pointer_argument_fits 0 all h)))))
 
-  called_fits : (around : Around) → Ready around → (type : CType) (m : Meant) (all : List Found) → AllFound_fit all → FitsValue (called around type m all)
+  called_fits : (around : Around) → Ready around → (type : CType) (m : Bind) (all : List Found) → AllFound_fit all → FitsValue (called around type m all)
   called_fits around ready type (Fun number) all h = function_called_fits around type number (slice_get around.signatures number) all (ready.calls number) h
   called_fits around ready type (Service number) all h = served_fits number all h
   called_fits around ready type (Builtin number) all h = built_in_fits number all h

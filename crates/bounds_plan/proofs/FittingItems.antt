@@ -37,7 +37,7 @@ index_below pre rest b = omega (arith, length-append pre (b ∷ rest))
 second_below : (pre rest : List Bool) (b c : Bool) → length pre + 1 < length (pre ++ (b ∷ c ∷ rest))
 second_below pre rest b c = omega (arith, length-append pre (b ∷ c ∷ rest))
 
-abbrev bounds_in : List Bool → ℕ → Bool
+abbrev pub bounds_in : List Bool → ℕ → Bool
 bounds_in w v = slice_index_or w v false
 
 module _ (takes : ℕ → ℕ) where
@@ -51,7 +51,7 @@ module _ (takes : ℕ → ℕ) where
   first_fits AWhole (Frame offset) rest pre size = tt
   first_fits NoValue (Frame offset) rest pre size = tt
 
-  variable_fits : (structs : List StructType) (ts : List CType) (ss : List Stand) (pre : List Bool) (number : ℕ) → FitsPlace (length (pre ++ private_values ts ss)) (bounds_in (pre ++ private_values ts ss)) takes (variable_of structs ts ss (length pre) number)
+  pub variable_fits : (structs : List StructType) (ts : List CType) (ss : List Stand) (pre : List Bool) (number : ℕ) → FitsPlace (length (pre ++ private_values ts ss)) (bounds_in (pre ++ private_values ts ss)) takes (variable_of structs ts ss (length pre) number)
   variable_fits structs [] ss pre number = tt
   variable_fits structs (t ∷ ts) [] pre number = tt
   variable_fits structs (t ∷ ts) (s ∷ ss) pre zero = first_fits (sort_of t) s (private_values ts ss) pre _

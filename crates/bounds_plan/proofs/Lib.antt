@@ -1,19 +1,26 @@
 mod Calls
 mod Copying
+mod Counting
 mod Effects
 mod Entry
 mod Exprs
 mod Flows
+mod Keeps
 mod Laid
+mod Few
 mod Fitting
 mod FittingBodies
 mod FittingItems
 mod Waiting
 mod WaitingBodies
 mod WaitingItems
-mod Inductions
+pub mod Homes
+pub mod Inductions
 mod Inside
 mod Fresh
+mod Naming
+mod NamingBodies
+mod NamingItems
 mod Once
 mod Outside
 mod Parts
@@ -24,6 +31,7 @@ mod Roots
 mod Runs
 mod Sim
 mod Sorts
+mod Spans
 mod Whole
 mod Words
 mod Worlds

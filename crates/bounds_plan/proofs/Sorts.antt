@@ -16,14 +16,14 @@ use Rattle.bounds_plan.specs.Compiled.{sorts_of, FitsFunction}
 use Rattle.bounds_plan.specs.Sorts.{pairs, pairs_ptr, pairs_all, pairs_effect, pairs_of, OfArguments, AllNameRight, NumberIn, BoundsIn}
 
 module _ (private : ℕ) (sorts : ℕ → Bool) (takes : ℕ → ℕ) (N B : ℕ → Type 0) (numbers : (x : ℕ) → IsNumber private sorts x → N x) (pointers : (x : ℕ) → IsPointer private sorts x → N x × B (x + 1)) where
-  abbrev All : List FatStep → Type 0
+  abbrev pub All : List FatStep → Type 0
   All c = AllNameRight N B c
 
   -- n pairs of temporaries from d on
-  abbrev Temps : ℕ → ℕ → Type 0
+  abbrev pub Temps : ℕ → ℕ → Type 0
   Temps d n = (i : ℕ) → i < n → N (d + 2 * i) × B (d + 2 * i + 1)
 
-  both : (a b : List FatStep) → All a → All b → All (a ++ b)
+  pub both : (a b : List FatStep) → All a → All b → All (a ++ b)
   both [] b h g = g
   both (x ∷ a) b h g = (h.0, both a b h.1 g)
 
@@ -289,7 +289,7 @@ module _ (private : ℕ) (sorts : ℕ → Bool) (takes : ℕ → ℕ) (N B : ℕ
       both (code_ptr to d l) _ (right_ptr to d l f.0 (fewer d n (pairs_ptr to) (omega arith) t)) (both (code_ptr from (d + 2) (l + labels_ptr to)) _ (right_ptr from (d + 2) (l + labels_ptr to) f.1 (beyond d n (pairs_ptr from) (omega arith) t))
       ((b.0, b.0), (b, ((a.0, a.0), (a, copied_all_right scalars d (fewer d n 4 (omega arith) t))))))
 
-  right_of : (st : Statement) (d l lb lc : ℕ) → FitsStatement private sorts takes st → Temps d (pairs_of st) → All (code_of st d l lb lc)
+  pub right_of : (st : Statement) (d l lb lc : ℕ) → FitsStatement private sorts takes st → Temps d (pairs_of st) → All (code_of st d l lb lc)
   right_of Skip d l lb lc f t = tt
   right_of (Do e) d l lb lc f t = right_effect e d l f t
   right_of (Then a b) d l lb lc f t = let n = pairs_of (Then a b) in both (code_of a d l lb lc) _ (right_of a d l lb lc f.0 (fewer d n (pairs_of a) (omega arith) t)) (right_of b d (l + labels_of a) lb lc f.1 (fewer d n (pairs_of b) (omega arith) t))
@@ -331,13 +331,13 @@ module _ (private : ℕ) (sorts : ℕ → Bool) (takes : ℕ → ℕ) (N B : ℕ
 
   -- ---- parameters of the frame
 
-  Arrive : List Parameter → ℕ → Type 0
+  unfoldable pub Arrive : List Parameter → ℕ → Type 0
   Arrive [] t = Unit {0}
   Arrive (Private x kind ∷ ps) t = Arrive ps t
   Arrive (Framed offset (Some kind) ∷ ps) t = N t × Arrive ps (t + 1)
   Arrive (Framed offset None ∷ ps) t = (N t × B (t + 1)) × Arrive ps (t + 2)
 
-  arrivals_right : (ps : List Parameter) (t d : ℕ) → Arrive ps t → N d × B (d + 1) → All (arrivals ps t d)
+  pub arrivals_right : (ps : List Parameter) (t d : ℕ) → Arrive ps t → N d × B (d + 1) → All (arrivals ps t d)
   unfolding Arrive
   arrivals_right [] t d w h = tt
   arrivals_right (Private x kind ∷ ps) t d w h = arrivals_right ps t d w h

@@ -14,7 +14,9 @@ use Rattle.c_types.specs.Types.{CType, Void, StructType}
 use Rattle.bounds_plan.specs.Core.{NumberExpr, Word, Convert, PointerExpr, Arguments}
 use Rattle.bounds_plan.specs.Sorts.{pairs, pairs_ptr, pairs_all, pairs_effect}
 use Rattle.bounds_plan.specs.ElaborateTypes.{Value, Numeric, Address, number_in, pointer_in, Sort, ANumber, APointer, AWhole, NoValue, sort_of, kind_of, step_in, promoted, common, done_in, keeps, converted, right_operand, wanted_pointer, given_as, given, cast_as}
-use Rattle.bounds_plan.specs.ElaborateSource.{Meant, Global, Local, Fun, Service, Builtin, Stand, Private, Frame, Reached, Signature, Around, kind_at, bind_at}
+use Rattle.c_check_rules.specs.declared.predeclared.Bind.{Bind}
+use Rattle.c_check_rules.specs.declared.predeclared.Bind.TheVariants.{Global, Local, Fun, Service, Builtin}
+use Rattle.bounds_plan.specs.ElaborateSource.{Stand, Private, Frame, Reached, Signature, Around, kind_at, bind_at}
 use Rattle.bounds_plan.specs.ElaboratePlaces.{Lvalue, NumberVariable, PointerVariable, InMemory, address_in, loaded_as, read_as, stored_as, written_as, changed_at, changed_as, variable_at, variable_of, private_values_of}
 use Rattle.bounds_plan.specs.ElaborateExpressions.{Found, Reading, effect_of, no_place, a_place, symbol_of, named, promoted_number, negative, inverse, is_zero, unary, arithmetic, compared, binary_as, binary, chosen_as, assigned, struct_copied, assignment_effect, compound_at, changed, assign_by, stepped_by, find_all, with_argument, arguments_for, called_as, argument_at, number_of_argument, pointer_of_argument, served, built_in, function_called, called, member, arrow, index, step, expression}
 use Rattle.bounds_plan.specs.ElaborateWaits.{waits_from, is_logical, expr_waits, waits}
@@ -158,7 +160,7 @@ no_place_short w type v place after h = record { value = h; lvalue = pointer_sho
 a_place_short : (w : ℕ) (type : CType) (l : Lvalue) (place : Place) (after : Reached) → pairs_place l ≤ w + 7 → Short w (a_place type l place after)
 a_place_short w type l place after h = record { value = read_short (w + 7) (sort_of type) place l h; lvalue = h; effect = effect_short (w + 7) (read_as (sort_of type) place l) (read_short (w + 7) (sort_of type) place l h) }
 
-named_short : (w : ℕ) (around : Around) (type : CType) (m : Meant) (place : Place) (after : Reached) → Short w (named around type m place after)
+named_short : (w : ℕ) (around : Around) (type : CType) (m : Bind) (place : Place) (after : Reached) → Short w (named around type m place after)
 named_short w around type (Global number) place after = a_place_short w type _ place after (omega arith)
 named_short w around type (Local number) place after = a_place_short w type (variable_of around.structs around.variables around.stands 0 number) place after (omega (arith, variables_short around.structs around.variables around.stands 0 number))
 named_short w around type (Fun number) place after = no_place_short w type _ place after (omega arith)
@@ -322,7 +324,7 @@ built_in_short w number all h = let p = pointer_argument_short 0 all w (omega ar
     either_pointer (w + 7) (number == 0) _ _ (omega arith) (either_pointer (w + 7) (number == 1) _ _ (omega arith) (either_pointer (w + 7) (number == 2) _ _ (omega arith)
     (either_pointer (w + 7) (number == 3) _ _ (omega arith) (either_pointer (w + 7) (number == 4) _ _ (omega arith) (omega arith)))))
 
-called_short : (w : ℕ) (around : Around) → Few around → (type : CType) (m : Meant) (all : List Found) → AllShort 0 w all → pairs_value (called around type m all) ≤ w + 7
+called_short : (w : ℕ) (around : Around) → Few around → (type : CType) (m : Bind) (all : List Found) → AllShort 0 w all → pairs_value (called around type m all) ≤ w + 7
 called_short w around few type (Fun number) all h = function_called_short w around type number (slice_get around.signatures number) all (few number) h
 called_short w around few type (Service number) all h = served_short w number all h
 called_short w around few type (Builtin number) all h = built_in_short w number all h

@@ -13,7 +13,9 @@ use Rattle.c_types.specs.Types.{CType, Void, Int, Pointer, Struct, StructType}
 use Rattle.bounds_plan.specs.Core.{NumberExpr, Word, Operate, Compare, And, Or, Choose, Call, Serve, Ask, AsNumber, PointerExpr, Function, Object, ChoosePtr, CallPtr, Alloc, SetBounds, NarrowBounds, CopyBounds, InitBounds, BoundOf, Arguments, NoMore, WithNumber, WithPointer, Effect, OfNumber, OfPointer, CopyStruct}
 use Rattle.bounds_plan.specs.ElaborateScalars.{scalars_of}
 use Rattle.bounds_plan.specs.ElaborateTypes.{Value, Numeric, Address, number_in, pointer_in, Sort, ANumber, APointer, AWhole, NoValue, sort_of, kind_of, target_of, size_in, step_in, promoted, common, done_in, converted, right_operand, wanted_pointer, given, cast_to}
-use Rattle.bounds_plan.specs.ElaborateSource.{Meant, Global, Local, Fun, Service, Builtin, Reached, Signature, Around, kind_at, bind_at, literal_at, past_kind, past_name, past_literal, start}
+use Rattle.c_check_rules.specs.declared.predeclared.Bind.{Bind}
+use Rattle.c_check_rules.specs.declared.predeclared.Bind.TheVariants.{Global, Local, Fun, Service, Builtin}
+use Rattle.bounds_plan.specs.ElaborateSource.{Reached, Signature, Around, kind_at, bind_at, literal_at, past_kind, past_name, past_literal, start}
 use Rattle.bounds_plan.specs.ElaboratePlaces.{Lvalue, InMemory, address_in, read_as, written_as, changed_as, takes_away, variable_of, place_among, struct_of, member_at, element_at, element_after}
 
 -- what is found of an expression: its type and value, and its place in the sources; the place that it is, if it is one; what it does as a whole
@@ -51,7 +53,7 @@ symbol_of around number = slice_index_or around.layout.functions number 0
 
 -- a global stands behind its symbol, a variable of the function in a private variable or its data frame. The name of a function is its address,
 -- and no place; a service or builtin has none, and stands only before its arguments
-abbrev pub named : Around → CType → Meant → Place → Reached → Found
+abbrev pub named : Around → CType → Bind → Place → Reached → Found
 named around type (Global number) place after = a_place type (InMemory (Object (slice_index_or around.layout.globals number 0) 0 (size_in around.structs type))) place after
 named around type (Local number) place after = a_place type (variable_of around.structs around.variables around.stands 0 number) place after
 named around type (Fun number) place after = no_place type (Address (Function (symbol_of around number))) place after
@@ -242,7 +244,7 @@ function_called around type number None all = Numeric (Word 0)
 function_called around type number (Some s) all = called_as (sort_of type) (symbol_of around number) (arguments_for s.parameters all)
 
 -- a call of what its name means; a variable is not called
-abbrev pub called : Around → CType → Meant → List Found → Value
+abbrev pub called : Around → CType → Bind → List Found → Value
 called around type (Fun number) all = function_called around type number (slice_get around.signatures number) all
 called around type (Service number) all = served number all
 called around type (Builtin number) all = Address (built_in number all)

@@ -3,15 +3,8 @@
 use Rattle.std.specs.Prelude.{ℕ, ◌+◌, Option, None, Some, List, slice_index_or, slice_index}
 use Rattle.mx_base.specs.declared.settings.Flags.{Flags}
 use Rattle.c_types.specs.Types.{CType, Void, StructType}
-
--- the meaning of a name: the global or function that was declared as the how-manieth of the source, the how-manieth parameter or local of
--- the function, or the place of a service or builtin among those
-pub data Meant : Type 0 where
-  Global : (number : ℕ) → Meant
-  Local : (number : ℕ) → Meant
-  Fun : (number : ℕ) → Meant
-  Service : (number : ℕ) → Meant
-  Builtin : (number : ℕ) → Meant
+use Rattle.c_check_rules.specs.declared.predeclared.Bind.{Bind}
+use Rattle.c_check_rules.specs.declared.predeclared.Bind.TheVariants.{Global, Local, Fun, Service, Builtin}
 
 -- where a parameter or local stands: in a private variable, or at an offset of the data frame
 pub data Stand : Type 0 where
@@ -32,11 +25,11 @@ pub record SourceLayout : Type 0 where
   pub literals : List ℕ
   pub frames : List FrameLayout
 
--- the type of each expression; what each name means that stands in an expression, or is declared as a variable or function; and the type of each
--- declaration: of these in tree order
+-- the type of each expression; what each name is bound to that stands in an expression, or is declared as a variable or function; and the type of
+-- each declaration: of these in tree order
 pub record Meanings : Type 0 where
   pub kinds : List CType
-  pub binds : List Meant
+  pub binds : List Bind
   pub declared : List CType
 
 -- how far the tree was gone through: the number of the next expression, name, declaration, literal and body
@@ -74,7 +67,7 @@ pub record Around : Type 0 where
 abbrev pub kind_at : Around → Reached → CType
 kind_at around r = slice_index_or around.meanings.kinds r.kind Void
 
-abbrev pub bind_at : Around → Reached → Meant
+abbrev pub bind_at : Around → Reached → Bind
 bind_at around r = slice_index_or around.meanings.binds r.name (Local 0)
 
 abbrev pub declared_at : Around → Reached → CType
@@ -84,14 +77,14 @@ abbrev pub literal_at : Around → Reached → ℕ
 literal_at around r = slice_index around.layout.literals r.literal
 
 -- a name that means no function, no variable or no global has no such number: `check` refuses it where one is needed
-abbrev pub function_number : Meant → Option ℕ
+abbrev pub function_number : Bind → Option ℕ
 function_number (Fun number) = Some number
 function_number (Global number) = None
 function_number (Local number) = None
 function_number (Service number) = None
 function_number (Builtin number) = None
 
-abbrev pub local_number : Meant → Option ℕ
+abbrev pub local_number : Bind → Option ℕ
 local_number (Local number) = Some number
 local_number (Global number) = None
 local_number (Fun number) = None

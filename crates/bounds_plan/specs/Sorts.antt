@@ -1,5 +1,5 @@
 -- Which values the steps of a function name, and as what.
-use Rattle.std.specs.Prelude.{ℕ, ◌+◌, ◌<◌, ◌≡◌, ◌⊎◌, max, true, false, Option, None, Some, List, [], ◌∷◌, slice_index_or}
+use Rattle.std.specs.Prelude.{ℕ, ◌+◌, ◌<◌, ◌≡◌, ◌⊎◌, max, Bool, true, false, Option, None, Some, List, [], ◌∷◌, slice_index_or}
 use Rattle.fat_ir.specs.declared.program.FatFun.{FatFun}
 use Rattle.fat_ir.specs.declared.step.FatStep.{FatStep}
 use Rattle.fat_ir.specs.declared.step.FatStep.TheVariants as s
@@ -112,6 +112,17 @@ NamesRight N B (s.Give from bounds) = OfSome N from × OfSome B bounds
 abbrev pub AllNameRight : (N B : ℕ → Type 0) → List FatStep → Type 0
 AllNameRight N B [] = Unit {0}
 AllNameRight N B (step ∷ rest) = NamesRight N B step × AllNameRight N B rest
+
+-- of these values as many as are bounds, or numbers
+abbrev pub same_sort : (a b : Bool) → ℕ
+same_sort true true = 1
+same_sort true false = 0
+same_sort false true = 0
+same_sort false false = 1
+
+abbrev pub how_many : (is_bounds : Bool) → List Bool → ℕ
+how_many is_bounds [] = 0
+how_many is_bounds (b ∷ more) = same_sort is_bounds b + how_many is_bounds more
 
 -- a value of a function that its numbering says is a number, and one that it says is bounds
 abbrev pub NumberIn : FatFun → ℕ → Type 0

@@ -8,7 +8,8 @@ use Rattle.c_tree.specs.declared.tree.InitKind.TheVariants as i
 use Rattle.c_tree.specs.declared.tree.StmtKind.TheVariants as s
 use Rattle.c_types.specs.Types.{Void, Int, Pointer, Array, Struct}
 use Rattle.bounds_plan.specs.WorkedSources.{Source, expr, init, stmt, decl, item}
-use Rattle.bounds_plan.specs.ElaborateSource.{Global, Local, Fun, Service, Private, Frame}
+use Rattle.c_check_rules.specs.declared.predeclared.Bind.TheVariants.{Global, Local, Fun, Service}
+use Rattle.bounds_plan.specs.ElaborateSource.{Private, Frame}
 
 -- ---- programs
 

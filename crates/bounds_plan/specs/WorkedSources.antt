@@ -18,7 +18,8 @@ use Rattle.c_tree.specs.declared.tree.Stmt.{Stmt}
 use Rattle.c_tree.specs.declared.tree.StmtKind.{StmtKind}
 use Rattle.c_tree.specs.declared.tree.StmtKind.TheVariants as s
 use Rattle.c_types.specs.Types.{Void, Int, Pointer, Array, Struct}
-use Rattle.bounds_plan.specs.ElaborateSource.{Global, Local, Fun, Service, Builtin, Private, SourceLayout, Meanings}
+use Rattle.c_check_rules.specs.declared.predeclared.Bind.TheVariants.{Global, Local, Fun, Service, Builtin}
+use Rattle.bounds_plan.specs.ElaborateSource.{Private, SourceLayout, Meanings}
 
 -- a source: its tree, the types and meanings of its nodes, where its data stands, and the bytes of its literals
 pub record Source : Type 0 where

@@ -1,6 +1,6 @@
 //! Laws of the meaning of C. Each function does nothing, and its contract is the law.
 
-ghost use Rattle.std.specs.Prelude.{◌≡◌, ◌≢◌, ◌≤◌, ℕ, ◌+◌, Bool, List, length};
+ghost use Rattle.std.specs.Prelude.{◌≡◌, ◌≢◌, ◌≤◌, ℕ, ◌+◌, Bool, List, length, true, false};
 ghost use Rattle.mx_base.specs.declared.limits.Bounds.{Bounds};
 ghost use Rattle.mx_base.specs.Memory.{Bytes};
 ghost use Rattle.mx_base.specs.World.{World, Log, world_at_start, empty_log};
@@ -13,7 +13,8 @@ ghost use Rattle.bounds_plan.specs.Expressions.{CalleeOfC, Names};
 ghost use Rattle.bounds_plan.specs.Follows.{FitsStatement, values_of, outcome_of, DoesSame, StandsSame, Holds, body_run_by_steps, body_run_in_c};
 ghost use Rattle.bounds_plan.specs.Functions.{FunctionOfC, Linked, body_run, calls, program_run};
 ghost use Rattle.bounds_plan.specs.Compiled.{FitsFunction, function_run_by_steps, all_compiled, parameters_of, FitsProgram, OutsideSame};
-ghost use Rattle.bounds_plan.specs.Sorts.{pairs_of, AllNameRight, NumberIn, BoundsIn};
+ghost use Rattle.fat_ir.specs.Spans.{IsAssignable};
+ghost use Rattle.bounds_plan.specs.Sorts.{pairs_of, AllNameRight, NumberIn, BoundsIn, how_many};
 ghost use Rattle.bounds_plan.specs.Outside.{lends, lends_by_steps, lending};
 ghost use Rattle.bounds_plan.specs.Roots.{AllRooted, RootedCalls, RootedOutside, AllMade, RunsWithin};
 ghost use Rattle.fat_ir.specs.Laws.{LacksLabel, passes_on as passes_on_by_steps};
@@ -142,4 +143,11 @@ pub fn outside_can_hand_over_pointers()
     ensures judged { (at value : ℕ) (b : Bounds) → LeftOutside Judged (lends at value b) }
     ensures pieces { (at value : ℕ) (b : Bounds) → LeftOutside (InPieces (lending at value b)) (lends at value b) }
     ensures roots { (start : List Bounds) (at value : ℕ) (b : Bounds) → RootedOutside start (lends at value b) }
+{}
+
+/// Values of a function can be given homes: no step lies in the spans of more than 152 numbers, or of more than 152 bounds, where
+/// the function has at most 64 private variables and six parameters, and its tree needs no more pairs of temporaries than
+/// functions have. The temporaries in which parameters arrive are named in the first steps alone.
+pub fn few_spans_share_a_step()
+    ensures { (takes : ℕ → ℕ) (f : FunctionOfC) → FitsFunction takes f → (name : ℕ) → pairs_of f.body ≤ most_pairs → how_many false f.privates ≤ 64 → how_many true f.privates ≤ 64 → length f.parameters ≤ 6 → IsAssignable (fat_function name f) }
 {}

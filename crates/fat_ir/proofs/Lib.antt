@@ -3,4 +3,5 @@ pub mod Lists
 mod Quiet
 mod Rooms
 mod Runs
+mod Spans
 pub mod Worlds

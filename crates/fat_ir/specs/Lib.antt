@@ -4,5 +4,6 @@ pub mod Step
 pub mod Run
 pub mod Functions
 pub mod Named
+pub mod Spans
 pub mod Laws
 pub mod Worked

@@ -6,6 +6,7 @@ ghost use Rattle.mx_base.specs.declared.places.Place.{Place as PlaceOf};
 ghost use Rattle.mx_base.specs.Bounds.{is_outside, leaving_value, last_byte};
 ghost use Rattle.mx_base.specs.StopOfC.{Bounds, AtPlace};
 ghost use Rattle.mx_base.specs.World.{World};
+ghost use Rattle.fat_ir.specs.declared.program.FatFun.{FatFun};
 ghost use Rattle.fat_ir.specs.declared.step.FatStep.{FatStep};
 ghost use Rattle.fat_ir.specs.Values.{Held, Number, Pair};
 ghost use Rattle.fat_ir.specs.Calls.{Callee, Stops};
@@ -13,6 +14,7 @@ ghost use Rattle.fat_ir.specs.Step.{Symbols, State, Going, Next, To, On, Over, d
 ghost use Rattle.fat_ir.specs.Run.{pass, and_then, followed, steps_run};
 ghost use Rattle.fat_ir.specs.Functions.{Linked, calls};
 ghost use Rattle.fat_ir.specs.Named.{writes};
+ghost use Rattle.fat_ir.specs.Spans.{Range, Spans, shared};
 ghost use Rattle.fat_ir.specs.Laws.{LeftByCalls, LeftOutside, Leaves, FramesGivenBack, NoMoreTurns, OutputGrows, AccessesGrow, Traced, AccessesAllowed, Events, InPieces, passes_on, WorldAfter, ValuesAfter, IsNone, is_quiet, LeavesMemory, LacksLabel};
 
 /// Whatever is called leaves no more turns than there were: then no run of steps does, and no run of a program.
@@ -94,4 +96,10 @@ pub fn quiet_steps_leave_memory()
 /// A step leaves each value that it doesn't name as one to write.
 pub fn other_values_stay()
     ensures { (symbols : Symbols) (step : FatStep) (s : State) (v : ℕ) → IsNone v (writes step) → ValuesAfter (λ values. values v ≡ s.values v) (does symbols step s) }
+{}
+
+/// Two ranges with the properties of a value's span share a range with these properties. So there is a least one, and it holds
+/// the steps that all of them hold.
+pub fn spans_are_least_ranges()
+    ensures { (f : FatFun) (v : ℕ) (r s : Range) → Spans f v r → Spans f v s → Spans f v (shared r s) }
 {}
