@@ -9,4 +9,6 @@ mod numbers;
 #[cfg(test)]
 mod outside;
 #[cfg(test)]
+mod rows;
+#[cfg(test)]
 mod services;

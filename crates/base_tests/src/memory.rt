@@ -2,36 +2,42 @@
 ghost use Rattle.std.specs.Prelude.{IsTrue};
 ghost use Rattle.paged_memory.specs.Answers.{is_width};
 
+use crate::rows::{given, judge, number};
 use paged_memory::{MemStop, Memory};
+use std::alloc::{AllocError, Global};
 use std::process::Abort;
 use std::test::Fail;
+
+/// Where eight bytes are stored, of which two are stored again; the number, its first byte and four bytes from the second on before
+/// that, and the number after it.
+const PLACES: &str = "\
+20000000|8877665544332211 11 55443322 887766bbaa332211
+20000ff8|8877665544332211 11 55443322 887766bbaa332211
+20000ff9|8877665544332211 11 55443322 887766bbaa332211
+20000ffc|8877665544332211 11 55443322 887766bbaa332211
+20000fff|8877665544332211 11 55443322 887766bbaa332211
+20fffff8|8877665544332211 11 55443322 887766bbaa332211
+70000ff8|8877665544332211 11 55443322 887766bbaa332211";
 
 #[test]
 fn numbers_stand_lowest_byte_first_over_page_edges(rt: HostRuntime) -> Result<(), Fail> {
     let mut m = Memory::make(rt.alloc(), 4)?;
-    let table = [
-        0x2000_0000,
-        0x2000_0ff8,
-        0x2000_0ff9,
-        0x2000_0ffc,
-        0x2000_0fff,
-        0x20ff_fff8,
-        0x7000_0ff8,
-    ];
-    for a in table {
+    for row in PLACES.lines() {
+        let a = number(&mut given(row));
         m.store(a, 8, 0x8877_6655_4433_2211)?;
-        let before = (m.load(a, 8), m.load(a, 1), m.load(a.wrapping_add(1), 4));
+        let (eight, one) = (m.load(a, 8)?, m.load(a, 1)?);
+        let four = m.load(a.wrapping_add(1), 4)?;
         m.store(a.wrapping_add(3), 2, 0xbbaa)?;
-        let want = (Ok(0x8877_6655_4433_2211), Ok(0x11), Ok(0x5544_3322));
-        let after = Ok(0x8877_66bb_aa33_2211);
-        assert_eq!(rt; (a, before, m.load(a, 8)), (a, want, after));
+        let after = m.load(a, 8)?;
+        let found = format!(in rt.alloc(); "{eight:x} {one:x} {four:x} {after:x}")?;
+        judge(&rt, row, found.as_str());
     }
     assert_eq!(rt; m.touched(), 4);
     Ok(())
 }
 
 /// Stores `n` bytes and loads them again, or neither.
-fn judge(rt: &impl Abort, m: &mut Memory, a: u64, n: u8, want: Result<u64, MemStop>)
+fn judge_width(rt: &impl Abort, m: &mut Memory, a: u64, n: u8, want: Result<u64, MemStop>)
     requires { IsTrue (is_width n) }
 {
     let stored = m.store(a, n, 0x8877_6655_4433_2211);
@@ -48,11 +54,11 @@ fn judge_edges(rt: &impl Abort, m: &mut Memory, n: u8, low: u64)
         let a = 0x2000_1000 + size * 0x10_0000 + back * 0x2000 - back;
         let pages = if back == 0 || size <= back { 1 } else { 2 };
         let before = m.touched() as u64;
-        judge(rt, m, a, n, Ok(low));
+        judge_width(rt, m, a, n, Ok(low));
         let around = (m.touched() as u64, m.load(a - 1, 1), m.load(a + size, 1));
         assert_eq!(rt; (n, a, around), (n, a, (before + pages, Ok(0), Ok(0))));
         let past = Err(MemStop::Unmapped(0x2100_0000));
-        judge(
+        judge_width(
             rt,
             m,
             0x2100_0000 - back,
@@ -65,7 +71,7 @@ fn judge_edges(rt: &impl Abort, m: &mut Memory, n: u8, low: u64)
         } else {
             Err(MemStop::Unmapped(first))
         };
-        judge(rt, m, first, n, low);
+        judge_width(rt, m, first, n, low);
     }
 }
 
@@ -79,31 +85,59 @@ fn every_width_stands_at_every_place_round_an_edge(rt: HostRuntime) -> Result<()
     Ok(())
 }
 
+/// Appends `ok`, or why memory refused, and a blank.
+fn push_answer(
+    alloc: Global,
+    line: &mut String,
+    refused: Option<MemStop>,
+) -> Result<(), AllocError> {
+    match refused {
+        None => line.push_str("ok "),
+        Some(MemStop::Unmapped(a)) => push_number(alloc, line, a),
+        Some(MemStop::NoFrames { .. }) => line.push_str("no frames "),
+    }
+}
+
+/// Appends a number in hexadecimal digits and a blank.
+fn push_number(alloc: Global, line: &mut String, n: u64) -> Result<(), AllocError> {
+    let text = format!(in alloc; "{n:x} ")?;
+    line.push_str(text.as_str())
+}
+
+/// The answers to a load, a read and a store of eight bytes, and what each byte of the buffer is then; or `8 bytes`, where they differ.
+fn refusal_line(alloc: Global, m: &mut Memory, a: u64) -> Result<String, AllocError> {
+    let mut line = String::new(alloc);
+    let mut buf = [7; 8];
+    push_answer(alloc, &mut line, m.load(a, 8).err())?;
+    push_answer(alloc, &mut line, m.read(a, &mut buf).err())?;
+    push_answer(alloc, &mut line, m.store(a, 8, 1).err())?;
+    let left = if buf == [7; 8] {
+        "7"
+    } else if buf == [0; 8] && m.load(a, 8) == Ok(0) {
+        "0"
+    } else {
+        "8 bytes"
+    };
+    line.push_str(left)?;
+    Ok(line)
+}
+
+/// Where eight bytes are loaded, read and stored; the first bytes that can't be, and what each byte of the buffer is then.
+const REFUSALS: &str = "\
+0|0 0 0 7
+ffffff|ffffff ffffff ffffff 7
+10fffffc|11000000 11000000 10fffffc 7
+12000000|ok ok 12000000 0
+20fffff9|21000000 21000000 21000000 7
+500100000000|500100000000 500100000000 500100000000 7
+ffffffffffffffff|ffffffffffffffff ffffffffffffffff ffffffffffffffff 7";
+
 #[test]
 fn the_first_byte_that_no_region_allows_is_told(rt: HostRuntime) -> Result<(), Fail> {
     let mut m = Memory::make(rt.alloc(), 4)?;
-    // Where eight bytes are loaded and stored, the first byte that can't be loaded, if there is one, and that can't be stored.
-    let table = [
-        (0, Some(0), 0),
-        (0x00ff_ffff, Some(0x00ff_ffff), 0x00ff_ffff),
-        (0x10ff_fffc, Some(0x1100_0000), 0x10ff_fffc),
-        (0x1200_0000, None, 0x1200_0000),
-        (0x20ff_fff9, Some(0x2100_0000), 0x2100_0000),
-        (0x5001_0000_0000, Some(0x5001_0000_0000), 0x5001_0000_0000),
-        (u64::MAX, Some(u64::MAX), u64::MAX),
-    ];
-    for (a, unread, unwritten) in table {
-        let mut buf = [7; 8];
-        let found = (m.load(a, 8), m.read(a, &mut buf), m.store(a, 8, 1));
-        let stored = Err(MemStop::Unmapped(unwritten));
-        let (want, left) = match unread {
-            None => ((Ok(0), Ok(()), stored), 0),
-            Some(byte) => {
-                let stop = MemStop::Unmapped(byte);
-                ((Err(stop), Err(stop), stored), 7)
-            }
-        };
-        assert_eq!(rt; (a, found, buf), (a, want, [left; 8]));
+    for row in REFUSALS.lines() {
+        let found = refusal_line(rt.alloc(), &mut m, number(&mut given(row)))?;
+        judge(&rt, row, found.as_str());
     }
     assert_eq!(rt; m.touched(), 0);
     Ok(())
@@ -128,6 +162,25 @@ fn a_write_takes_all_its_frames_or_none(rt: HostRuntime) -> Result<(), Fail> {
     Ok(())
 }
 
+/// How many bytes are fetched, or the answer, and what the buffer holds then.
+fn fetch_line(alloc: Global, m: &Memory, a: u64) -> Result<String, AllocError> {
+    let mut buf = [9; 15];
+    let mut line = String::new(alloc);
+    match m.fetch(a, &mut buf) {
+        Ok(count) => push_number(alloc, &mut line, count as u64)?,
+        Err(stop) => push_answer(alloc, &mut line, Some(stop))?,
+    }
+    line.push_str(format!(in alloc; "{buf:?}")?.as_str())?;
+    Ok(line)
+}
+
+/// Where is fetched; the number of bytes, or the first byte that can't be, and what the buffer holds then.
+const FETCHES: &str = "\
+10fffffd|3 [97, 98, 99, 9, 9, 9, 9, 9, 9, 9, 9, 9, 9, 9, 9]
+10ffffee|f [0, 0, 0, 0, 0, 0, 0, 0, 0, 0, 0, 0, 0, 0, 0]
+11000000|11000000 [9, 9, 9, 9, 9, 9, 9, 9, 9, 9, 9, 9, 9, 9, 9]
+20000000|20000000 [9, 9, 9, 9, 9, 9, 9, 9, 9, 9, 9, 9, 9, 9, 9]";
+
 #[test]
 fn code_is_placed_and_fetched_to_the_end_of_its_region(rt: HostRuntime) -> Result<(), Fail> {
     let mut m = Memory::make(rt.alloc(), 3)?;
@@ -138,21 +191,9 @@ fn code_is_placed_and_fetched_to_the_end_of_its_region(rt: HostRuntime) -> Resul
         MemStop::Unmapped(0x1200_0000),
     );
     assert_eq!(rt; refused, (Err(end), Err(legacy)));
-    // Where is fetched, the answer, and what the buffer holds then.
-    let table = [
-        (
-            0x10ff_fffd,
-            Ok(3),
-            [97, 98, 99, 9, 9, 9, 9, 9, 9, 9, 9, 9, 9, 9, 9],
-        ),
-        (0x10ff_ffee, Ok(15), [0; 15]),
-        (0x1100_0000, Err(end), [9; 15]),
-        (0x2000_0000, Err(MemStop::Unmapped(0x2000_0000)), [9; 15]),
-    ];
-    for (a, want, left) in table {
-        let mut buf = [9; 15];
-        let got = m.fetch(a, &mut buf);
-        assert_eq!(rt; (a, got, buf), (a, want, left));
+    for row in FETCHES.lines() {
+        let found = fetch_line(rt.alloc(), &m, number(&mut given(row)))?;
+        judge(&rt, row, found.as_str());
     }
     Ok(())
 }

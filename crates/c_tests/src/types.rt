@@ -28,25 +28,32 @@ fn of_integers(alloc: Global, kinds: &[IntKind]) -> Result<(TypeTable, TypeId), 
     Ok((table, t))
 }
 
+/// The size and the alignment of a struct of integers, and the offset of each member.
+fn layout_line(alloc: Global, kinds: &[IntKind]) -> Result<String, Fail>
+    requires some { 1 ≤ length kinds.now }
+    requires few { length kinds.now ≤ 100 }
+{
+    let (table, t) = of_integers(alloc, kinds)?;
+    let (size, align) = (table.size(t), table.align(t));
+    let mut line = format!(in alloc; "{size} {align}:")?;
+    for k in 0..kinds.len() {
+        let offset = table.offset(t, k as u32);
+        line.push_str(format!(in alloc; " {offset}")?.as_str())?;
+    }
+    Ok(line)
+}
+
 #[test]
 fn structs_are_laid_out_as_in_c(rt: HostRuntime) -> Result<(), Fail> {
-    let (request, s) = of_integers(rt.alloc(), &[IntKind::I8, IntKind::I64, IntKind::I16])?;
-    let offsets = (
-        request.offset(s, 0),
-        request.offset(s, 1),
-        request.offset(s, 2),
-    );
-    let found = (request.size(s), request.align(s), offsets);
-    assert_eq!(rt; found, (24, 8, (0, 8, 16)));
-    let (bytes, t) = of_integers(
+    let found = layout_line(rt.alloc(), &[IntKind::I8, IntKind::I64, IntKind::I16])?;
+    assert_eq!(rt; found.as_str(), "24 8: 0 8 16");
+    let found = layout_line(
         rt.alloc(),
         &[IntKind::U8, IntKind::I8, IntKind::U32, IntKind::I8],
     )?;
-    let offsets = (bytes.offset(t, 1), bytes.offset(t, 2), bytes.offset(t, 3));
-    let found = (bytes.size(t), bytes.align(t), offsets);
-    assert_eq!(rt; found, (12, 4, (1, 4, 8)));
-    let (small, u) = of_integers(rt.alloc(), &[IntKind::U16, IntKind::U8])?;
-    assert_eq!(rt; (small.size(u), small.align(u)), (4, 2));
+    assert_eq!(rt; found.as_str(), "12 4: 0 1 4 8");
+    let found = layout_line(rt.alloc(), &[IntKind::U16, IntKind::U8])?;
+    assert_eq!(rt; found.as_str(), "4 2: 0 2");
     Ok(())
 }
 

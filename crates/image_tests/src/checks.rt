@@ -1,313 +1,125 @@
 //! MPX instructions at the exact edges of their bounds and one past them, and what becomes of bounds at branches.
 
-use crate::assembler::{
-    CODE, PLAIN, RAX, RBX, RCX, RDX, Rules, absolute, assemble, machine_of, over, pointer, run,
-    set, word,
-};
-use mx_base::{Breach, Stop};
+use crate::assembler::judge;
 use std::test::Fail;
-use x86_forms::{Base, Instr, Mem, Reg, Rm};
 
-const EXIT: [Instr; 2] = [
-    Instr::MovImm {
-        w: 64,
-        r: RAX,
-        imm: 60,
-    },
-    Instr::Syscall,
-];
+/// Checks of rax against the bounds 0x1000 to 0x1fff in bnd1, and those of bnd0, which allow every address.
+const EDGES: &str = "\
+1000 F30F1AC8||run:0=exit:0 status=0|bndcl bnd1,rax
+fff F30F1AC8||run:0=bounds:fff:1000:1fff:1000016 status=1|bndcl bnd1,rax
+fff F30F1A4801||run:0=exit:0 status=0|bndcl bnd1,[rax+1]
+ffe F30F1A4801||run:0=bounds:fff:1000:1fff:1000016 status=1|bndcl bnd1,[rax+1]
+-1 F30F1A4801||run:0=bounds:0:1000:1fff:1000016 status=1|bndcl bnd1,[rax+1]
+-1 F30F1AC8||run:0=exit:0 status=0|bndcl bnd1,rax
+1fff F20F1AC8||run:0=exit:0 status=0|bndcu bnd1,rax
+2000 F20F1AC8||run:0=bounds:2000:1000:1fff:1000016 status=1|bndcu bnd1,rax
+1ffe F20F1A4801||run:0=exit:0 status=0|bndcu bnd1,[rax+1]
+1fff F20F1A4801||run:0=bounds:2000:1000:1fff:1000016 status=1|bndcu bnd1,[rax+1]
+-1 F20F1A4801||run:0=exit:0 status=0|bndcu bnd1,[rax+1]
+-1 F20F1AC8||run:0=bounds:ffffffffffffffff:1000:1fff:1000016 status=1|bndcu bnd1,rax
+-2000 F20F1BC8||run:0=exit:0 status=0|bndcn bnd1,rax
+-1fff F20F1BC8||run:0=bounds:ffffffffffffe001:1000:1fff:1000016 status=1|bndcn bnd1,rax
+-2001 F20F1B4801||run:0=exit:0 status=0|bndcn bnd1,[rax+1]
+-2000 F20F1B4801||run:0=bounds:ffffffffffffe001:1000:1fff:1000016 status=1|bndcn bnd1,[rax+1]
+0 F30F1AC0||run:0=exit:0 status=0|bndcl bnd0,rax
+-1 F20F1AC0||run:0=exit:0 status=0|bndcu bnd0,rax
+0 F20F1BC0||run:0=exit:0 status=0|bndcn bnd0,rax
+1 F20F1BC0||run:0=bounds:1:0:ffffffffffffffff:1000016 status=1|bndcn bnd0,rax";
 
-/// The bounds 0x1000 to 0x1fff in bnd1.
-const MAKE: Instr = Instr::Bndmk {
-    b: 1,
-    m: Mem {
-        base: Base::Reg(RBX),
-        index: None,
-        disp: 0xfff,
-    },
-};
+/// Two instructions after rbx is 0x1000 and rcx 3, and then bnd1 and bnd2.
+const MOVES: &str = "\
+F30F1B8BFF0F0000 660F1AD1||run:0=exit:0 lower:1=1000 held:1=ffffffffffffe000 lower:2=1000 held:2=ffffffffffffe000|bndmk bnd1,[rbx+0xfff]; bndmov bnd2,bnd1
+F30F1B0C25FF1F0000 660F1AD1||run:0=exit:0 lower:1=0 held:1=ffffffffffffe000 lower:2=0 held:2=ffffffffffffe000|bndmk bnd1,[0x1fff]; bndmov bnd2,bnd1
+F30F1B4C8B08 660F1AD1||run:0=exit:0 lower:1=1000 held:1=ffffffffffffefeb lower:2=1000 held:2=ffffffffffffefeb|bndmk bnd1,[rbx+rcx*4+8]; bndmov bnd2,bnd1
+F30F1B8BFFEFFFFF 660F1AD1||run:0=exit:0 lower:1=1000 held:1=0 lower:2=1000 held:2=0|bndmk bnd1,[rbx-0x1001]; bndmov bnd2,bnd1
+F30F1B8BFF0F0000 660F1B0C25F0FFFF20||run:0=exit:0 lower:1=1000 held:1=ffffffffffffe000 lower:2=0 held:2=0|bndmk bnd1,[rbx+0xfff]; bndmov [0x20fffff0],bnd1
+F30F1B8BFF0F0000 660F1B0C25F1FFFF20||run:0=unmapped:21000000 lower:1=1000 held:1=ffffffffffffe000 lower:2=0 held:2=0|bndmk bnd1,[rbx+0xfff]; bndmov [0x20fffff1],bnd1
+660F1AD1 660F1A1425F0FFFF20||run:0=exit:0 lower:1=0 held:1=0 lower:2=0 held:2=0|bndmov bnd2,bnd1; bndmov bnd2,[0x20fffff0]
+660F1AD1 660F1A1425F1FFFF20||run:0=unmapped:21000000 lower:1=0 held:1=0 lower:2=0 held:2=0|bndmov bnd2,bnd1; bndmov bnd2,[0x20fffff1]
+F30F1B8BFF0F0000 660F1B0C2500000012||run:0=unmapped:12000000 lower:1=1000 held:1=ffffffffffffe000 lower:2=0 held:2=0|bndmk bnd1,[rbx+0xfff]; bndmov [0x12000000],bnd1";
+
+/// The lower bound stands first, and then the upper one in one's complement form.
+const IN_MEMORY: &str = "\
+F30F1B8BFF0F0000 660F1B0C25F0FFFF20660F1A1425F0FFFF20||run:0=exit:0 lower:2=1000 held:2=ffffffffffffe000 word:20fffff0=1000 word:20fffff8=ffffffffffffe000";
+
+/// Bounds are stored for a pointer at rcx of the value rdx, and loaded for another.
+const TABLES: &str = "\
+30000008 7 0F1B0C11 30000008 7 0F1A1411||run:0=exit:0 lower:2=1000 held:2=ffffffffffffe000|bndstx [rcx+rdx],bnd1; bndldx bnd2,[rcx+rdx]
+30000008 7 0F1B0C11 3000000f 7 0F1A1411||run:0=exit:0 lower:2=1000 held:2=ffffffffffffe000|bndstx [rcx+rdx],bnd1; bndldx bnd2,[rcx+rdx]
+30000008 7 0F1B0C11 30000010 7 0F1A1411||run:0=exit:0 lower:2=0 held:2=0|bndstx [rcx+rdx],bnd1; bndldx bnd2,[rcx+rdx]
+30000008 7 0F1B0C11 30000007 7 0F1A1411||run:0=exit:0 lower:2=0 held:2=0|bndstx [rcx+rdx],bnd1; bndldx bnd2,[rcx+rdx]
+30000008 7 0F1B0C11 30000008 8 0F1A1411||run:0=exit:0 lower:2=0 held:2=0|bndstx [rcx+rdx],bnd1; bndldx bnd2,[rcx+rdx]
+30000008 7 0F1B0C11 30000008 6 0F1A1411||run:0=exit:0 lower:2=0 held:2=0|bndstx [rcx+rdx],bnd1; bndldx bnd2,[rcx+rdx]
+30000008 7 0F1B0C11 30000008 7 0F1A11||run:0=exit:0 lower:2=0 held:2=0|bndstx [rcx+rdx],bnd1; bndldx bnd2,[rcx]
+30000008 7 0F1B09 30000008 0 0F1A1411||run:0=exit:0 lower:2=1000 held:2=ffffffffffffe000|bndstx [rcx],bnd1; bndldx bnd2,[rcx+rdx]
+7fffffffffff 7 0F1B0C11 7ffffffffff8 7 0F1A1411||run:0=exit:0 lower:2=1000 held:2=ffffffffffffe000|bndstx [rcx+rdx],bnd1; bndldx bnd2,[rcx+rdx]
+800000000000 7 0F1B0C11 800000000000 7 0F1A1411||run:0=unmapped:800000000000 lower:2=0 held:2=0|bndstx [rcx+rdx],bnd1; bndldx bnd2,[rcx+rdx]
+0 7 0F1B0C11 800000000000 7 0F1A1411||run:0=unmapped:800000000000 lower:2=0 held:2=0|bndstx [rcx+rdx],bnd1; bndldx bnd2,[rcx+rdx]
+0 7 0F1B0C11 -1 7 0F1A1411||run:0=unmapped:ffffffffffffffff lower:2=0 held:2=0|bndstx [rcx+rdx],bnd1; bndldx bnd2,[rcx+rdx]";
+
+/// A branch to the bytes behind it, 256 of which are each a `nop`.
+const BRANCHES: &str = "\
+E800000000||run:1=exit:0 lower:1=0 held:1=0|call next
+E900000000||run:1=exit:0 lower:1=0 held:1=0|jmp next
+FFD1||run:1=exit:0 lower:1=0 held:1=0|call rcx
+FFE1||run:1=exit:0 lower:1=0 held:1=0|jmp rcx
+0F8400000000||run:1=exit:0 lower:1=0 held:1=0|je next
+0F8500000000||run:1=exit:0 lower:1=0 held:1=0|jne next
+C3||run:1=exit:0 lower:1=0 held:1=0|ret
+E800000000|preserve|run:1=exit:0 lower:1=1000 held:1=ffffffffffffe000|call next
+E900000000|preserve|run:1=exit:0 lower:1=1000 held:1=ffffffffffffe000|jmp next
+FFD1|preserve|run:1=exit:0 lower:1=1000 held:1=ffffffffffffe000|call rcx
+FFE1|preserve|run:1=exit:0 lower:1=1000 held:1=ffffffffffffe000|jmp rcx
+0F8400000000|preserve|run:1=exit:0 lower:1=1000 held:1=ffffffffffffe000|je next
+0F8500000000|preserve|run:1=exit:0 lower:1=1000 held:1=ffffffffffffe000|jne next
+C3|preserve|run:1=exit:0 lower:1=1000 held:1=ffffffffffffe000|ret
+F2E800000000||run:1=exit:0 lower:1=1000 held:1=ffffffffffffe000|bnd call next
+F2E900000000||run:1=exit:0 lower:1=1000 held:1=ffffffffffffe000|bnd jmp next
+F2FFD1||run:1=exit:0 lower:1=1000 held:1=ffffffffffffe000|bnd call rcx
+F2FFE1||run:1=exit:0 lower:1=1000 held:1=ffffffffffffe000|bnd jmp rcx
+F20F8400000000||run:1=exit:0 lower:1=1000 held:1=ffffffffffffe000|bnd je next
+F20F8500000000||run:1=exit:0 lower:1=1000 held:1=ffffffffffffe000|bnd jne next
+F2C3||run:1=exit:0 lower:1=1000 held:1=ffffffffffffe000|bnd ret
+F2E800000000|preserve|run:1=exit:0 lower:1=1000 held:1=ffffffffffffe000|bnd call next
+F2E900000000|preserve|run:1=exit:0 lower:1=1000 held:1=ffffffffffffe000|bnd jmp next
+F2FFD1|preserve|run:1=exit:0 lower:1=1000 held:1=ffffffffffffe000|bnd call rcx
+F2FFE1|preserve|run:1=exit:0 lower:1=1000 held:1=ffffffffffffe000|bnd jmp rcx
+F20F8400000000|preserve|run:1=exit:0 lower:1=1000 held:1=ffffffffffffe000|bnd je next
+F20F8500000000|preserve|run:1=exit:0 lower:1=1000 held:1=ffffffffffffe000|bnd jne next
+F2C3|preserve|run:1=exit:0 lower:1=1000 held:1=ffffffffffffe000|bnd ret";
 
 #[test]
 fn checks_fail_one_past_an_edge(rt: HostRuntime) -> Result<(), Fail> {
-    let rax = Rm::Reg(RAX);
-    let behind_rax = Rm::Mem(over(RAX, 1));
-    let lower = |b, rm| Instr::Bndcl { b, rm };
-    let upper = |b, rm| Instr::Bndcu { b, rm };
-    let held = |b, rm| Instr::Bndcn { b, rm };
-    // The check, rax, and the value that is outside, if one is. The bounds of bnd0 allow every address.
-    let table = [
-        (lower(1, rax), 0x1000, None),
-        (lower(1, rax), 0xfff, Some(0xfff)),
-        (lower(1, behind_rax), 0xfff, None),
-        (lower(1, behind_rax), 0xffe, Some(0xfff)),
-        (lower(1, behind_rax), -1, Some(0)),
-        (lower(1, rax), -1, None),
-        (upper(1, rax), 0x1fff, None),
-        (upper(1, rax), 0x2000, Some(0x2000)),
-        (upper(1, behind_rax), 0x1ffe, None),
-        (upper(1, behind_rax), 0x1fff, Some(0x2000)),
-        (upper(1, behind_rax), -1, None),
-        (upper(1, rax), -1, Some(0xffff_ffff_ffff_ffff)),
-        (held(1, rax), -0x2000, None),
-        (held(1, rax), -0x1fff, Some(0xffff_ffff_ffff_e001)),
-        (held(1, behind_rax), -0x2001, None),
-        (held(1, behind_rax), -0x2000, Some(0xffff_ffff_ffff_e001)),
-        (lower(0, rax), 0, None),
-        (upper(0, rax), -1, None),
-        (held(0, rax), 0, None),
-        (held(0, rax), 1, Some(1)),
-    ];
-    for (check, value, outside) in table {
-        let code = [
-            set(RBX, 0x1000),
-            MAKE,
-            set(RAX, value),
-            check,
-            EXIT[0],
-            EXIT[1],
-        ];
-        let mut m = machine_of(rt.alloc(), &code, &[], PLAIN)?;
-        let found = run(rt.alloc(), &mut m, 0)?;
-        let before = assemble(rt.alloc(), &code[..3])?;
-        let rip = u64::from(CODE).wrapping_add(before.len() as u64);
-        let (lb, ub) = match check {
-            Instr::Bndcn { b: 0, .. } => (0, u64::MAX),
-            _ => (0x1000, 0x1fff),
-        };
-        let stop = match outside {
-            None => Stop::Exit(0),
-            Some(value) => Stop::Bounds(Breach { value, lb, ub, rip }),
-        };
-        let status = u64::from(outside.is_some());
-        assert_eq!(rt;
-            (check, value, found, m.status()),
-            (check, value, stop, status)
-        );
-    }
-    Ok(())
+    judge(
+        &rt,
+        "rbx=1000 F30F1B8BFF0F0000 rax=? ? rax=3c 0F05",
+        "",
+        EDGES,
+    )
 }
 
 #[test]
 fn bounds_are_made_and_moved(rt: HostRuntime) -> Result<(), Fail> {
-    let indexed = Mem {
-        base: Base::Reg(RBX),
-        index: Some((RCX, 4)),
-        disp: 8,
-    };
-    let make = |m| Instr::Bndmk { b: 1, m };
-    let put = |m| Instr::BndmovTo { b: 1, m };
-    let take = |m| Instr::BndmovFrom {
-        b: 2,
-        rm: Rm::Mem(m),
-    };
-    let copy = Instr::BndmovFrom {
-        b: 2,
-        rm: Rm::Reg(Reg(1)),
-    };
-    let last = 0x20ff_fff0;
-    let past = Stop::Unmapped(0x2100_0000);
-    let fine = Stop::Exit(0);
-    // Two instructions after rbx is 0x1000 and rcx 3, the stop, and the words of bnd1 and of bnd2.
-    let table = [
-        (
-            make(over(RBX, 0xfff)),
-            copy,
-            fine,
-            (0x1000, !0x1fff),
-            (0x1000, !0x1fff),
-        ),
-        (
-            make(absolute(0x1fff)),
-            copy,
-            fine,
-            (0, !0x1fff),
-            (0, !0x1fff),
-        ),
-        (
-            make(indexed),
-            copy,
-            fine,
-            (0x1000, !0x1014),
-            (0x1000, !0x1014),
-        ),
-        (
-            make(over(RBX, -0x1001)),
-            copy,
-            fine,
-            (0x1000, 0),
-            (0x1000, 0),
-        ),
-        (MAKE, put(absolute(last)), fine, (0x1000, !0x1fff), (0, 0)),
-        (
-            MAKE,
-            put(absolute(last + 1)),
-            past,
-            (0x1000, !0x1fff),
-            (0, 0),
-        ),
-        (copy, take(absolute(last)), fine, (0, 0), (0, 0)),
-        (copy, take(absolute(last + 1)), past, (0, 0), (0, 0)),
-        (
-            MAKE,
-            put(absolute(0x1200_0000)),
-            Stop::Unmapped(0x1200_0000),
-            (0x1000, !0x1fff),
-            (0, 0),
-        ),
-    ];
-    for (first, second, stop, one, two) in table {
-        let code = [
-            set(RBX, 0x1000),
-            set(RCX, 3),
-            first,
-            second,
-            EXIT[0],
-            EXIT[1],
-        ];
-        let mut m = machine_of(rt.alloc(), &code, &[], PLAIN)?;
-        let found = (run(rt.alloc(), &mut m, 0)?, m.bnd(1), m.bnd(2));
-        assert_eq!(rt; (first, second, found), (first, second, (stop, one, two)));
-    }
-    // The lower bound stands first, and then the upper one in one's complement form.
-    let code = [
-        set(RBX, 0x1000),
-        MAKE,
-        put(absolute(last)),
-        take(absolute(last)),
-        EXIT[0],
-        EXIT[1],
-    ];
-    let mut m = machine_of(rt.alloc(), &code, &[], PLAIN)?;
-    let stop = run(rt.alloc(), &mut m, 0)?;
-    let words = (word(&m, 0x20ff_fff0), word(&m, 0x20ff_fff8));
-    let want = (Some(0x1000), Some(!0x1fff));
-    assert_eq!(rt; (stop, m.bnd(2), words), (fine, (0x1000, !0x1fff), want));
-    Ok(())
+    judge(&rt, "rbx=1000 rcx=3 ? ? rax=3c 0F05", "", MOVES)?;
+    judge(&rt, "rbx=1000 ? ? rax=3c 0F05", "", IN_MEMORY)
 }
 
 #[test]
 fn bounds_are_loaded_for_the_same_pointer_alone(rt: HostRuntime) -> Result<(), Fail> {
-    let mib = pointer(RCX, RDX);
-    let no_value = over(RCX, 0);
-    let made = (0x1000, !0x1fff);
-    let fine = Stop::Exit(0);
-    let far = 0x8000_0000_0000;
-    // Where bounds are stored for which value; where they are loaded for which value; the stop, and what bnd2 holds then.
-    let table = [
-        ((mib, 0x3000_0008, 7), (mib, 0x3000_0008, 7), fine, made),
-        ((mib, 0x3000_0008, 7), (mib, 0x3000_000f, 7), fine, made),
-        ((mib, 0x3000_0008, 7), (mib, 0x3000_0010, 7), fine, (0, 0)),
-        ((mib, 0x3000_0008, 7), (mib, 0x3000_0007, 7), fine, (0, 0)),
-        ((mib, 0x3000_0008, 7), (mib, 0x3000_0008, 8), fine, (0, 0)),
-        ((mib, 0x3000_0008, 7), (mib, 0x3000_0008, 6), fine, (0, 0)),
-        (
-            (mib, 0x3000_0008, 7),
-            (no_value, 0x3000_0008, 7),
-            fine,
-            (0, 0),
-        ),
-        (
-            (no_value, 0x3000_0008, 7),
-            (mib, 0x3000_0008, 0),
-            fine,
-            made,
-        ),
-        ((mib, far - 1, 7), (mib, far - 8, 7), fine, made),
-        (
-            (mib, far, 7),
-            (mib, far, 7),
-            Stop::Unmapped(0x8000_0000_0000),
-            (0, 0),
-        ),
-        (
-            (mib, 0, 7),
-            (mib, far, 7),
-            Stop::Unmapped(0x8000_0000_0000),
-            (0, 0),
-        ),
-        (
-            (mib, 0, 7),
-            (mib, -1, 7),
-            Stop::Unmapped(0xffff_ffff_ffff_ffff),
-            (0, 0),
-        ),
-    ];
-    for ((to, to_at, kept), (from, from_at, value), stop, bounds) in table {
-        let code = [
-            set(RBX, 0x1000),
-            MAKE,
-            set(RCX, to_at),
-            set(RDX, kept),
-            Instr::Bndstx { b: 1, m: to },
-            set(RCX, from_at),
-            set(RDX, value),
-            Instr::Bndldx { b: 2, m: from },
-            EXIT[0],
-            EXIT[1],
-        ];
-        let mut m = machine_of(rt.alloc(), &code, &[], PLAIN)?;
-        let found = run(rt.alloc(), &mut m, 0)?;
-        let row = (to_at, kept, from_at, value);
-        assert_eq!(rt; (row, found, m.bnd(2)), (row, stop, bounds));
-    }
-    Ok(())
+    judge(
+        &rt,
+        "rbx=1000 F30F1B8BFF0F0000 rcx=? rdx=? ? rcx=? rdx=? ? rax=3c 0F05",
+        "",
+        TABLES,
+    )
 }
 
 #[test]
 fn branches_without_the_prefix_lose_bounds(rt: HostRuntime) -> Result<(), Fail> {
-    let to_rcx = Rm::Reg(RCX);
-    for prefixed in [false, true] {
-        for preserve in [false, true] {
-            let branches = [
-                Instr::CallRel { prefixed, rel: 0 },
-                Instr::JmpRel { prefixed, rel: 0 },
-                Instr::CallRm {
-                    prefixed,
-                    rm: to_rcx,
-                },
-                Instr::JmpRm {
-                    prefixed,
-                    rm: to_rcx,
-                },
-                Instr::Jcc {
-                    prefixed,
-                    op: 4,
-                    rel: 0,
-                },
-                Instr::Jcc {
-                    prefixed,
-                    op: 5,
-                    rel: 0,
-                },
-                Instr::Ret { prefixed },
-            ];
-            for branch in branches {
-                let before = [
-                    set(RBX, 0x1000),
-                    MAKE,
-                    set(RCX, 0x0100_0100),
-                    Instr::Push { r: RCX },
-                ];
-                let mut code = Vec::from_slice(rt.alloc(), &before)?;
-                code.push(branch)?;
-                for _ in 0..256 {
-                    code.push(Instr::Nop)?;
-                }
-                code.extend_from_slice(&EXIT)?;
-                let mut m = machine_of(rt.alloc(), &code, &[], Rules { preserve, ..PLAIN })?;
-                let stop = run(rt.alloc(), &mut m, 1)?;
-                let kept = if prefixed || preserve {
-                    (0x1000, !0x1fff)
-                } else {
-                    (0, 0)
-                };
-                let found = (stop, m.bnd(1));
-                assert_eq!(rt;
-                    (branch, preserve, found),
-                    (branch, preserve, (Stop::Exit(0), kept))
-                );
-            }
-        }
-    }
-    Ok(())
+    judge(
+        &rt,
+        "rbx=1000 F30F1B8BFF0F0000 rcx=1000100 51 ? 90*100 rax=3c 0F05",
+        "",
+        BRANCHES,
+    )
 }

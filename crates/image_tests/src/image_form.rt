@@ -1,6 +1,7 @@
 //! Images at the edges of their form.
 
-use obj_file::{FormFault, Spot4, read_image, write_image};
+use obj_file::{FormFault, Image, read_image, write_image};
+use std::alloc::{AllocError, Global};
 use std::process::Abort;
 use std::test::Fail;
 
@@ -90,36 +91,31 @@ fn each_rule_broken_once(rt: HostRuntime) {
     }
 }
 
-#[test]
-fn a_small_image_both_ways(rt: HostRuntime) -> Result<(), Fail> {
-    let alloc = rt.alloc();
-    let Ok(image) = read_image(alloc, &SMALL) else {
-        panic!(rt; "the bytes are an image");
-    };
+/// The outer entries, segments, files and places of an image.
+fn image_line(alloc: Global, image: &Image) -> Result<String, AllocError> {
+    let outers = image.outers;
+    let mut line = format!(in alloc; "{outers} outer")?;
     for segment in image.segments.as_slice() {
-        let found = (segment.at, segment.bytes.as_slice());
-        assert_eq!(rt; found, (0x0200_0000, [0xC3].as_slice()));
+        let (at, bytes) = (segment.at, segment.bytes.as_slice());
+        line.push_str(format!(in alloc; ", {at:x} {bytes:?}")?.as_str())?;
     }
     for file in image.files.as_slice() {
-        assert_eq!(rt; file.as_str(), "a");
+        let name = file.as_str();
+        line.push_str(format!(in alloc; ", {name}")?.as_str())?;
     }
-    let spot = Spot4 {
-        at: 0x0200_0000,
-        file: 0,
-        line: 2,
-        col: 3,
-    };
-    let bytes = write_image(alloc, &image)?;
-    let counts = (
-        image.segments.as_slice().len(),
-        image.files.as_slice().len(),
-    );
-    let found = (
-        image.outers,
-        counts,
-        image.places.as_slice(),
-        bytes.as_slice(),
-    );
-    assert_eq!(rt; found, (1, (1, 1), [spot].as_slice(), SMALL.as_slice()));
+    for spot in image.places.as_slice() {
+        line.push_str(format!(in alloc; ", {spot:?}")?.as_str())?;
+    }
+    Ok(line)
+}
+
+const LINE: &str = "1 outer, 2000000 [195], a, Spot4 { at: 33554432, file: 0, line: 2, col: 3 }";
+
+#[test]
+fn a_small_image_both_ways(rt: HostRuntime) -> Result<(), Fail> {
+    let image = read_image(rt.alloc(), &SMALL)?;
+    let line = image_line(rt.alloc(), &image)?;
+    let bytes = write_image(rt.alloc(), &image)?;
+    assert_eq!(rt; (line.as_str(), bytes.as_slice()), (LINE, SMALL.as_slice()));
     Ok(())
 }

@@ -19,4 +19,6 @@ mod straying;
 #[cfg(test)]
 mod tables;
 #[cfg(test)]
+mod telling;
+#[cfg(test)]
 mod turns;

@@ -1,6 +1,7 @@
 //! Objects at the edges of their form.
 
-use obj_file::{Fix, FormFault, Spot3, read_object, write_object};
+use obj_file::{FormFault, Object, read_object, write_object};
+use std::alloc::{AllocError, Global};
 use std::process::Abort;
 use std::test::Fail;
 
@@ -161,47 +162,31 @@ fn names_and_signatures(rt: HostRuntime) -> Result<(), Fail> {
     Ok(())
 }
 
+/// Whether an object is legacy code, its file, how many bytes of code and symbols it has, and its fix-ups and places.
+fn object_line(alloc: Global, object: &Object) -> Result<String, AllocError> {
+    let (legacy, file) = (object.legacy, object.file.as_str());
+    let bytes = object.code.as_slice().len();
+    let symbols = object.symbols.as_slice().len();
+    let mut line = format!(in alloc; "{legacy} {file} {bytes} {symbols}")?;
+    for fix in object.fixes.as_slice() {
+        line.push_str(format!(in alloc; ", {fix:?}")?.as_str())?;
+    }
+    for spot in object.places.as_slice() {
+        line.push_str(format!(in alloc; ", {spot:?}")?.as_str())?;
+    }
+    Ok(line)
+}
+
+const LINE: &str = "false a.c 13 2, \
+Fix { part: 1, offset: 1, form: 2, symbol: 0, addend: -4 }, \
+Fix { part: 2, offset: 0, form: 0, symbol: 1, addend: 0 }, \
+Spot3 { offset: 5, line: 1, col: 2 }";
+
 #[test]
 fn a_small_object_both_ways(rt: HostRuntime) -> Result<(), Fail> {
-    let alloc = rt.alloc();
-    let Ok(object) = read_object(alloc, &SMALL) else {
-        panic!(rt; "the bytes are an object");
-    };
-    let counts = (
-        object.code.as_slice().len(),
-        object.symbols.as_slice().len(),
-    );
-    let found = (object.legacy, object.file.as_str(), counts);
-    assert_eq!(rt; found, (false, "a.c", (13, 2)));
-    let relative = Fix {
-        part: 1,
-        offset: 1,
-        form: 2,
-        symbol: 0,
-        addend: -4,
-    };
-    let absolute = Fix {
-        part: 2,
-        offset: 0,
-        form: 0,
-        symbol: 1,
-        addend: 0,
-    };
-    let spot = Spot3 {
-        offset: 5,
-        line: 1,
-        col: 2,
-    };
-    let bytes = write_object(alloc, &object)?;
-    let found = (
-        object.fixes.as_slice(),
-        object.places.as_slice(),
-        bytes.as_slice(),
-    );
-    let fixes = [relative, absolute];
-    assert_eq!(rt;
-        found,
-        (fixes.as_slice(), [spot].as_slice(), SMALL.as_slice())
-    );
+    let object = read_object(rt.alloc(), &SMALL)?;
+    let line = object_line(rt.alloc(), &object)?;
+    let bytes = write_object(rt.alloc(), &object)?;
+    assert_eq!(rt; (line.as_str(), bytes.as_slice()), (LINE, SMALL.as_slice()));
     Ok(())
 }

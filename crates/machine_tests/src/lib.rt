@@ -18,6 +18,8 @@ mod entries;
 #[cfg(test)]
 mod processor;
 #[cfg(test)]
+mod reading;
+#[cfg(test)]
 mod serving;
 #[cfg(test)]
 mod watch;

@@ -1,10 +1,12 @@
 //! Single instructions that are not of MPX.
 
-use paged_memory::{MemStop, Memory};
+use crate::reading::{column, instr_of};
+use paged_memory::Memory;
+use std::process::Abort;
 use std::test::Fail;
 use x86_alu::Four;
 use x86_core::{CoreStop, Cpu, Done, plain, step};
-use x86_forms::{Base, Instr, Mem, Reg, Rm, valid};
+use x86_forms::{Instr, valid};
 
 const CODE: u64 = 0x1200_0000;
 
@@ -38,33 +40,9 @@ fn four(bits: u8) -> Four {
     }
 }
 
-fn reg(r: u8) -> Rm {
-    Rm::Reg(Reg(r))
-}
-
-fn stack(disp: i32) -> Mem {
-    Mem {
-        base: Base::Reg(Reg(4)),
-        index: None,
-        disp,
-    }
-}
-
-fn at(disp: i32) -> Mem {
-    Mem {
-        base: Base::None,
-        index: None,
-        disp,
-    }
-}
-
-fn jump(call: bool, ret: bool, prefixed: bool) -> Done {
-    Done::Branch {
-        call,
-        ret,
-        taken: true,
-        prefixed,
-    }
+/// The four bits of flags.
+fn bits(flags: Four) -> u8 {
+    u8::from(flags.cf) * 8 + u8::from(flags.zf) * 4 + u8::from(flags.sf) * 2 + u8::from(flags.of)
 }
 
 /// A step of three bytes; no instruction of the tables is of MPX.
@@ -76,345 +54,103 @@ fn does(cpu: &mut Cpu, m: &mut Memory, i: Instr) -> Result<Done, CoreStop> {
     }
 }
 
+/// Judges what was found for a row.
+fn judge(rt: &impl Abort, row: &str, found: &str) {
+    assert_eq!(rt; (row, found), (row, column(row, 1)));
+}
+
+/// An instruction of a table, the register that it is about, how it is done, rip after it, the register after it, and the flags.
+const STEPS: &str = "\
+88CB|3 Ok(Next) 12000003 3333333333333311 5|MovTo { w: 8, r: Reg(1), rm: Reg(Reg(3)) }
+6689CB|3 Ok(Next) 12000003 3333333333331111 5|MovTo { w: 16, r: Reg(1), rm: Reg(Reg(3)) }
+89CB|3 Ok(Next) 12000003 11111111 5|MovTo { w: 32, r: Reg(1), rm: Reg(Reg(3)) }
+48C7C3FFFFFFFF|3 Ok(Next) 12000003 ffffffffffffffff 5|MovImm { w: 64, r: Reg(3), imm: -1 }
+0FBE542407|2 Ok(Next) 12000003 ffffff88 5|Movsx { w: 32, from: 8, r: Reg(2), rm: Mem(Mem { base: Reg(Reg(4)), index: None, disp: 7 }) }
+4863542404|2 Ok(Next) 12000003 ffffffff88776655 5|Movsxd { r: Reg(2), rm: Mem(Mem { base: Reg(Reg(4)), index: None, disp: 4 }) }
+0FB7542406|2 Ok(Next) 12000003 8877 5|Movzx { from: 16, r: Reg(2), rm: Mem(Mem { base: Reg(Reg(4)), index: None, disp: 6 }) }
+488D548CF8|2 Ok(Next) 12000003 4444444464444c3c 5|Lea { r: Reg(2), m: Mem { base: Reg(Reg(4)), index: Some((Reg(1), 4)), disp: -8 } }
+4801CB|3 Ok(Next) 12000003 4444444444444444 0|AluTo { op: 0, w: 64, r: Reg(1), rm: Reg(Reg(3)) }
+483B0C24|1 Ok(Next) 12000003 1111111111111111 b|AluFrom { op: 5, w: 64, r: Reg(1), m: Mem { base: Reg(Reg(4)), index: None, disp: 0 } }
+99|2 Ok(Next) 12000003 ffffffff 5|Wide { w: 32 }
+4899|2 Ok(Next) 12000003 0 5|Wide { w: 64 }
+D3E3|3 Ok(Next) 12000003 66660000 0|ShiftCl { op: 0, w: 32, rm: Reg(Reg(3)) }
+C1E320|3 Ok(Next) 12000003 33333333 5|ShiftImm { op: 0, w: 32, rm: Reg(Reg(3)), imm: 32 }
+0F94C3|3 Ok(Next) 12000003 3333333333333301 5|Set { op: 4, rm: Reg(Reg(3)) }
+54|4 Ok(Next) 12000003 200007f8 5|Push { r: Reg(4) }
+5C|4 Ok(Next) 12000003 8877665544332211 5|Pop { r: Reg(4) }
+E810000000|4 Ok(Branch { call: true, ret: false, taken: true, prefixed: false }) 12000013 200007f8 5|CallRel { prefixed: false, rel: 16 }
+F2FF1424|4 Ok(Branch { call: true, ret: false, taken: true, prefixed: true }) 8877665544332211 200007f8 5|CallRm { prefixed: true, rm: Mem(Mem { base: Reg(Reg(4)), index: None, disp: 0 }) }
+F20F84FDFFFFFF|4 Ok(Branch { call: false, ret: false, taken: true, prefixed: true }) 12000000 20000800 5|Jcc { prefixed: true, op: 4, rel: -3 }
+C3|4 Ok(Branch { call: false, ret: true, taken: true, prefixed: false }) 8877665544332211 20000808 5|Ret { prefixed: false }
+0F05|1 Ok(Service) 12000003 12000003 5|Syscall";
+
 #[test]
 fn steps_change_what_the_manual_says(rt: HostRuntime) -> Result<(), Fail> {
-    let (r1, r2, r3, r4) = (Reg(1), Reg(2), Reg(3), Reg(4));
-    let indexed = Mem {
-        base: Base::Reg(r4),
-        index: Some((r1, 4)),
-        disp: -8,
-    };
-    let top = 0x8877_6655_4433_2211;
-    let below = STACK - 8;
-    // the instruction, how it is done, rip after it, a register after it, and the flags
-    let table = [
-        (
-            Instr::MovTo {
-                w: 8,
-                r: r1,
-                rm: reg(3),
-            },
-            Done::Next,
-            NEXT,
-            3,
-            0x3333_3333_3333_3311,
-            0b0101,
-        ),
-        (
-            Instr::MovTo {
-                w: 16,
-                r: r1,
-                rm: reg(3),
-            },
-            Done::Next,
-            NEXT,
-            3,
-            0x3333_3333_3333_1111,
-            0b0101,
-        ),
-        (
-            Instr::MovTo {
-                w: 32,
-                r: r1,
-                rm: reg(3),
-            },
-            Done::Next,
-            NEXT,
-            3,
-            0x1111_1111,
-            0b0101,
-        ),
-        (
-            Instr::MovImm {
-                w: 64,
-                r: r3,
-                imm: -1,
-            },
-            Done::Next,
-            NEXT,
-            3,
-            u64::MAX,
-            0b0101,
-        ),
-        (
-            Instr::Movsx {
-                w: 32,
-                from: 8,
-                r: r2,
-                rm: Rm::Mem(stack(7)),
-            },
-            Done::Next,
-            NEXT,
-            2,
-            0xffff_ff88,
-            0b0101,
-        ),
-        (
-            Instr::Movsxd {
-                r: r2,
-                rm: Rm::Mem(stack(4)),
-            },
-            Done::Next,
-            NEXT,
-            2,
-            0xffff_ffff_8877_6655,
-            0b0101,
-        ),
-        (
-            Instr::Movzx {
-                from: 16,
-                r: r2,
-                rm: Rm::Mem(stack(6)),
-            },
-            Done::Next,
-            NEXT,
-            2,
-            0x8877,
-            0b0101,
-        ),
-        (
-            Instr::Lea { r: r2, m: indexed },
-            Done::Next,
-            NEXT,
-            2,
-            0x4444_4444_6444_4c3c,
-            0b0101,
-        ),
-        (
-            Instr::AluTo {
-                op: 0,
-                w: 64,
-                r: r1,
-                rm: reg(3),
-            },
-            Done::Next,
-            NEXT,
-            3,
-            0x4444_4444_4444_4444,
-            0b0000,
-        ),
-        (
-            Instr::AluFrom {
-                op: 5,
-                w: 64,
-                r: r1,
-                m: stack(0),
-            },
-            Done::Next,
-            NEXT,
-            1,
-            0x1111_1111_1111_1111,
-            0b1011,
-        ),
-        (
-            Instr::Wide { w: 32 },
-            Done::Next,
-            NEXT,
-            2,
-            0xffff_ffff,
-            0b0101,
-        ),
-        (Instr::Wide { w: 64 }, Done::Next, NEXT, 2, 0, 0b0101),
-        (
-            Instr::ShiftCl {
-                op: 0,
-                w: 32,
-                rm: reg(3),
-            },
-            Done::Next,
-            NEXT,
-            3,
-            0x6666_0000,
-            0b0000,
-        ),
-        (
-            Instr::ShiftImm {
-                op: 0,
-                w: 32,
-                rm: reg(3),
-                imm: 32,
-            },
-            Done::Next,
-            NEXT,
-            3,
-            0x3333_3333,
-            0b0101,
-        ),
-        (
-            Instr::Set { op: 4, rm: reg(3) },
-            Done::Next,
-            NEXT,
-            3,
-            0x3333_3333_3333_3301,
-            0b0101,
-        ),
-        (Instr::Push { r: r4 }, Done::Next, NEXT, 4, below, 0b0101),
-        (Instr::Pop { r: r4 }, Done::Next, NEXT, 4, top, 0b0101),
-        (
-            Instr::CallRel {
-                prefixed: false,
-                rel: 16,
-            },
-            jump(true, false, false),
-            NEXT + 16,
-            4,
-            below,
-            0b0101,
-        ),
-        (
-            Instr::CallRm {
-                prefixed: true,
-                rm: Rm::Mem(stack(0)),
-            },
-            jump(true, false, true),
-            top,
-            4,
-            below,
-            0b0101,
-        ),
-        (
-            Instr::Jcc {
-                prefixed: true,
-                op: 4,
-                rel: -3,
-            },
-            jump(false, false, true),
-            CODE,
-            4,
-            STACK,
-            0b0101,
-        ),
-        (
-            Instr::Ret { prefixed: false },
-            jump(false, true, false),
-            top,
-            4,
-            STACK + 8,
-            0b0101,
-        ),
-        (Instr::Syscall, Done::Service, NEXT, 1, NEXT, 0b0101),
-    ];
     let mut m = Memory::make(rt.alloc(), 2)?;
-    for (i, done, rip, k, value, flags) in table {
+    for row in STEPS.lines() {
+        let i = instr_of(rt.alloc(), row)?;
         let mut cpu = started();
-        m.store(STACK, 8, top)?;
+        m.store(STACK, 8, 0x8877_6655_4433_2211)?;
         let how = does(&mut cpu, &mut m, i);
-        let found = (how, cpu.rip, cpu.regs.get(k).copied(), cpu.flags);
-        assert_eq!(rt; (i, found), (i, (Ok(done), rip, Some(value), four(flags))));
+        let k = column(row, 1)
+            .chars()
+            .next()
+            .and_then(|c| c.to_digit(16))
+            .unwrap_or(0);
+        let value = cpu.regs.get(k as usize).copied().unwrap_or(0);
+        let (rip, flags) = (cpu.rip, bits(cpu.flags));
+        let found = format!(in rt.alloc(); "{k} {how:?} {rip:x} {value:x} {flags:x}")?;
+        judge(&rt, row, found.as_str());
     }
     Ok(())
 }
 
+/// An instruction of a table, and the word below the stack pointer after it and those before it.
+const PUSHES: &str = "\
+54|20000800|Push { r: Reg(4) }
+F2E800000000|12000003|CallRel { prefixed: true, rel: 0 }
+48F75424F8|ffffffffedfffffc|One { op: 0, w: 64, rm: Mem(Mem { base: Reg(Reg(4)), index: None, disp: -8 }) }
+48C16C24F840|ffffffffedfffffc|ShiftImm { op: 1, w: 64, rm: Mem(Mem { base: Reg(Reg(4)), index: None, disp: -8 }), imm: 64 }
+66C74424F80000|ffffffffedff0000|MovMemImm { w: 16, m: Mem { base: Reg(Reg(4)), index: None, disp: -8 }, imm: 0 }";
+
 #[test]
 fn pushes_write_what_was_there_before(rt: HostRuntime) -> Result<(), Fail> {
     let mut m = Memory::make(rt.alloc(), 2)?;
-    let table = [
-        (Instr::Push { r: Reg(4) }, STACK),
-        (
-            Instr::CallRel {
-                prefixed: true,
-                rel: 0,
-            },
-            NEXT,
-        ),
-        (
-            Instr::One {
-                op: 0,
-                w: 64,
-                rm: Rm::Mem(stack(-8)),
-            },
-            u64::MAX - NEXT,
-        ),
-        (
-            Instr::ShiftImm {
-                op: 1,
-                w: 64,
-                rm: Rm::Mem(stack(-8)),
-                imm: 64,
-            },
-            u64::MAX - NEXT,
-        ),
-        (
-            Instr::MovMemImm {
-                w: 16,
-                m: stack(-8),
-                imm: 0,
-            },
-            (u64::MAX - NEXT) / 0x1_0000 * 0x1_0000,
-        ),
-    ];
-    for (i, value) in table {
+    for row in PUSHES.lines() {
+        let i = instr_of(rt.alloc(), row)?;
         let mut cpu = started();
         let _done = does(&mut cpu, &mut m, i);
-        assert_eq!(rt; (i, m.load(STACK - 8, 8)), (i, Ok(value)));
+        let word = m.load(STACK - 8, 8)?;
+        let found = format!(in rt.alloc(); "{word:x}")?;
+        judge(&rt, row, found.as_str());
     }
     Ok(())
 }
+
+/// An instruction of a table, and why it isn't done.
+const STOPS: &str = "\
+48F7F1|Divide|One { op: 2, w: 64, rm: Reg(Reg(1)) }
+F77C2408|Divide|One { op: 3, w: 32, rm: Mem(Mem { base: Reg(Reg(4)), index: None, disp: 8 }) }
+0F0B|Undefined|Ud2
+48890C2510000000|Mem(Unmapped(16))|MovTo { w: 64, r: Reg(1), rm: Mem(Mem { base: None, index: None, disp: 16 }) }
+010C2500000012|Mem(Unmapped(301989888))|AluTo { op: 0, w: 32, r: Reg(1), rm: Mem(Mem { base: None, index: None, disp: 301989888 }) }
+FF142520000000|Mem(Unmapped(32))|CallRm { prefixed: false, rm: Mem(Mem { base: None, index: None, disp: 32 }) }
+C604250000003001|Mem(NoFrames { in_use: 1, capacity: 1 })|MovMemImm { w: 8, m: Mem { base: None, index: None, disp: 805306368 }, imm: 1 }";
 
 #[test]
 fn steps_that_are_not_done_change_nothing(rt: HostRuntime) -> Result<(), Fail> {
     let mut m = Memory::make(rt.alloc(), 1)?;
     m.store(STACK, 8, 7)?;
-    let short = MemStop::NoFrames {
-        in_use: 1,
-        capacity: 1,
-    };
-    let table = [
-        (
-            Instr::One {
-                op: 2,
-                w: 64,
-                rm: reg(1),
-            },
-            CoreStop::Divide,
-        ),
-        (
-            Instr::One {
-                op: 3,
-                w: 32,
-                rm: Rm::Mem(stack(8)),
-            },
-            CoreStop::Divide,
-        ),
-        (Instr::Ud2, CoreStop::Undefined),
-        (
-            Instr::MovTo {
-                w: 64,
-                r: Reg(1),
-                rm: Rm::Mem(at(16)),
-            },
-            CoreStop::Mem(MemStop::Unmapped(16)),
-        ),
-        (
-            Instr::AluTo {
-                op: 0,
-                w: 32,
-                r: Reg(1),
-                rm: Rm::Mem(at(0x1200_0000)),
-            },
-            CoreStop::Mem(MemStop::Unmapped(0x1200_0000)),
-        ),
-        (
-            Instr::CallRm {
-                prefixed: false,
-                rm: Rm::Mem(at(32)),
-            },
-            CoreStop::Mem(MemStop::Unmapped(32)),
-        ),
-        (
-            Instr::MovMemImm {
-                w: 8,
-                m: at(0x3000_0000),
-                imm: 1,
-            },
-            CoreStop::Mem(short),
-        ),
-    ];
-    for (i, stop) in table {
+    for row in STOPS.lines() {
+        let i = instr_of(rt.alloc(), row)?;
         let mut cpu = started();
-        let how = does(&mut cpu, &mut m, i);
-        let found = (how, cpu, m.load(STACK, 8), m.touched());
-        assert_eq!(rt; (i, found), (i, (Err(stop), started(), Ok(7), 1)));
+        let found = match does(&mut cpu, &mut m, i) {
+            Ok(done) => format!(in rt.alloc(); "{done:?}")?,
+            Err(stop) => format!(in rt.alloc(); "{stop:?}")?,
+        };
+        judge(&rt, row, found.as_str());
+        let left = (cpu, m.load(STACK, 8), m.touched());
+        assert_eq!(rt; left, (started(), Ok(7), 1));
     }
     Ok(())
 }
