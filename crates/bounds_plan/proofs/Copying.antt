@@ -34,7 +34,7 @@ use Rattle.bounds_plan.specs.ElaborateStatements.{Stating, in_order, done_by, te
 use Rattle.bounds_plan.specs.ElaborateFunctions.{Defined, Gone, Body, body_by, with_known, after_item, after_items, at_start, gone_by, elaborated}
 use Rattle.bounds_plan.specs.ElaborateLaws.{AllCopyInside}
 use Rattle.bounds_plan.proofs.Inside.{scalars_inside}
-use Rattle.bounds_plan.proofs.Inductions.{ExprA, ExprB, bare_exprs, every_exprs, InitA, InitB, bare_inits, every_inits, StmtA, StmtB, bare_stmts, every_stmts}
+use Rattle.c_tree.proofs.Inductions.{ExprA, ExprB, bare_exprs, every_exprs, InitA, InitB, bare_inits, every_inits, StmtA, StmtB, bare_stmts, every_stmts}
 
 -- ---- expressions
 

@@ -23,7 +23,7 @@ use Rattle.bounds_plan.specs.ElaborateExpressions.{Found, effect_of, expression}
 use Rattle.bounds_plan.specs.ElaborateInitialisers.{Filling, part_at, zero_as, zero_written, zeros, member_zeros, text_filled, scalar_filled, bytes_of, one_filled, elements_filled, members_filled, many_filled, init_step, initialiser}
 use Rattle.bounds_plan.specs.ElaborateStatements.{Stating, in_order, done_by, tested_by, maybe, local_of, declared, return_of, returned_by, all_stated, past_counts, stmt_step, statement_by}
 use Rattle.bounds_plan.proofs.Fitting.{FitsValue, FitsPlace, FitsFound, Ready, effect_fits, given_fits, written_fits, copied_fits, expressions_fit}
-use Rattle.bounds_plan.proofs.Inductions.{InitA, InitB, bare_inits, every_inits, StmtA, StmtB, bare_stmts, every_stmts}
+use Rattle.c_tree.proofs.Inductions.{InitA, InitB, bare_inits, every_inits, StmtA, StmtB, bare_stmts, every_stmts}
 
 module _ (private : ℕ) (is_bounds : ℕ → Bool) (takes : ℕ → ℕ) where
   pub AllFitEffects : List Effect → Type 0

@@ -1,5 +1,5 @@
-mod Calls
-mod Copying
+pub mod Calls
+pub mod Copying
 mod Counting
 mod Effects
 mod Entry
@@ -7,15 +7,14 @@ mod Exprs
 mod Flows
 mod Keeps
 mod Laid
-mod Few
+pub mod Few
 mod Fitting
 mod FittingBodies
-mod FittingItems
+pub mod FittingItems
 mod Waiting
 mod WaitingBodies
-mod WaitingItems
+pub mod WaitingItems
 pub mod Homes
-pub mod Inductions
 mod Inside
 mod Fresh
 mod Naming
@@ -34,4 +33,4 @@ mod Sorts
 mod Spans
 mod Whole
 mod Words
-mod Worlds
+pub mod Worlds

@@ -20,7 +20,7 @@ use Rattle.bounds_plan.specs.ElaborateSource.{Stand, Private, Frame, Reached, Si
 use Rattle.bounds_plan.specs.ElaboratePlaces.{Lvalue, NumberVariable, PointerVariable, InMemory, address_in, loaded_as, read_as, stored_as, written_as, changed_at, changed_as, variable_at, variable_of, private_values_of}
 use Rattle.bounds_plan.specs.ElaborateExpressions.{Found, Reading, effect_of, no_place, a_place, symbol_of, named, promoted_number, negative, inverse, is_zero, unary, arithmetic, compared, binary_as, binary, chosen_as, assigned, struct_copied, assignment_effect, compound_at, changed, assign_by, stepped_by, find_all, with_argument, arguments_for, called_as, argument_at, number_of_argument, pointer_of_argument, served, built_in, function_called, called, member, arrow, index, step, expression}
 use Rattle.bounds_plan.specs.ElaborateWaits.{waits_from, is_logical, expr_waits, waits}
-use Rattle.bounds_plan.proofs.Inductions.{ExprA, ExprB, bare_exprs, every_exprs, exprs_fused}
+use Rattle.c_tree.proofs.Inductions.{ExprA, ExprB, bare_exprs, every_exprs, exprs_fused}
 
 abbrev pub pairs_value : Value → ℕ
 pairs_value (Numeric e) = pairs e

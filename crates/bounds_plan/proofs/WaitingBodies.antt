@@ -26,7 +26,7 @@ use Rattle.bounds_plan.specs.ElaborateInitialisers.{Filling, part_at, zero_as, z
 use Rattle.bounds_plan.specs.ElaborateStatements.{Stating, in_order, done_by, tested_by, maybe, local_of, declared, return_of, returned_by, all_stated, past_counts, stmt_step, statement_by}
 use Rattle.bounds_plan.specs.ElaborateWaits.{most, waits, maybe_waits, init_waits, waits_init, maybe_waits_init, stmt_waits, waits_stmt}
 use Rattle.bounds_plan.proofs.Waiting.{pairs_value, pairs_place, number_short, effect_short, given_short, written_short, copied_short, variables_short, Short, Few, expressions_short}
-use Rattle.bounds_plan.proofs.Inductions.{InitA, InitB, bare_inits, every_inits, inits_fused, StmtA, StmtB, bare_stmts, every_stmts, stmts_fused}
+use Rattle.c_tree.proofs.Inductions.{InitA, InitB, bare_inits, every_inits, inits_fused, StmtA, StmtB, bare_stmts, every_stmts, stmts_fused}
 
 pub AllBelow : (n : ℕ) → List Effect → Type 0
 AllBelow n [] = Unit {0}

@@ -34,7 +34,7 @@ use Rattle.bounds_plan.specs.ElaborateLaws.{TakesParameters, TakesFew, AllTakeFe
 use Rattle.bounds_plan.proofs.Homes.{elaborated_assignable}
 use Rattle.c_accepted.specs.Frames.{AllStand, AllPlanned}
 use Rattle.c_accepted.proofs.Empty.{first_empty, second_empty, none_at, not_broken, neither, not_above}
-use Rattle.c_accepted.proofs.Kept.{Keeps, kept_then, kept_and_then, kept_parameter, kept_global, kept_function, kept_maybe_fills, kept_maybe_statement, kept_struct}
+use Rattle.c_check.proofs.KeptBodies.{Keeps, kept_then, kept_and_then, kept_parameter, kept_global, kept_function, kept_maybe_fills, kept_maybe_statement, kept_struct}
 
 -- ---- one function
 
@@ -100,7 +100,7 @@ one_more : (all : List Body) (b : Body) → AllFew all → privates_of b.variabl
 one_more [] b h g = (g, tt)
 one_more (a ∷ all) b h g = (h.0, one_more all b h.1 g)
 
-kept_params : (params : List Decl) → Keeps (walk_all (map parameter params))
+pub kept_params : (params : List Decl) → Keeps (walk_all (map parameter params))
 kept_params [] state = refl
 kept_params (d ∷ more) state = kept_then (parameter d) (walk_all (map parameter more)) (kept_parameter d) (kept_params more) state
 
@@ -149,7 +149,7 @@ all_wait_few (x ∷ more) state h =
     omega (arith, one, others)
 
 -- an accepted source has no item that breaks a rule
-none_broken : (tree : Tree) (room : ℕ) → IsAccepted tree room → (items tree.items at_start).broken ≡ []
+pub none_broken : (tree : Tree) (room : ℕ) → IsAccepted tree room → (items tree.items at_start).broken ≡ []
 none_broken tree room h = first_empty (items tree.items at_start).broken _ (second_empty (at_first tree.items (breaks TooLarge (is_too_large tree room))) _ h)
 
 pub parameters_few : (tree : Tree) (room : ℕ) → IsAccepted tree room → AllTakeFew tree.items

@@ -12,12 +12,12 @@ use Rattle.c_accepted.specs.Frames.{AllPlanned}
 use Rattle.c_accepted.specs.Symbols.{arguments_of, Lacks, AllDiffer, HaveSymbols}
 use Rattle.c_accepted.proofs.Small.{values_assignable}
 
-other_symbol : (f : ℕ) (fs : List ℕ) (n : ℕ) → n < length fs → Lacks f fs → f ≢ slice_index_or fs n 0
+pub other_symbol : (f : ℕ) (fs : List ℕ) (n : ℕ) → n < length fs → Lacks f fs → f ≢ slice_index_or fs n 0
 other_symbol f [] n lt h = absurd (omega (arith, lt))
 other_symbol f (g ∷ fs) zero lt h = h.0
 other_symbol f (g ∷ fs) (suc n) lt h = other_symbol f fs n (omega (arith, lt)) h.1
 
-got_within : (xs : List Signature) (n : ℕ) (s : Signature) → slice_get xs n ≡ Some s → n < length xs
+pub got_within : (xs : List Signature) (n : ℕ) (s : Signature) → slice_get xs n ≡ Some s → n < length xs
 got_within [] n s e = cc
 got_within (x ∷ xs) zero s e = omega arith
 got_within (x ∷ xs) (suc n) s e = let h = got_within xs n s e in omega (arith, h)

@@ -1,6 +1,7 @@
 -- How many arguments the symbols of a layout take, by the functions of its source.
-use Rattle.std.specs.Prelude.{◌≢◌, ℕ, ◌≤◌, ◌==◌, if◌then◌else◌, List, [], ◌∷◌, length}
+use Rattle.std.specs.Prelude.{◌≡◌, ◌≢◌, ℕ, ◌≤◌, ◌==◌, if◌then◌else◌, List, [], ◌∷◌, length, slice_index_or}
 use Rattle.bounds_plan.specs.ElaborateSource.{SourceLayout, Signature}
+use Rattle.bounds_plan.specs.ElaborateFunctions.{Defined}
 
 -- as many as the function of the symbol has parameters
 abbrev pub arguments_of : (symbols : List ℕ) → List Signature → (symbol : ℕ) → ℕ
@@ -21,3 +22,8 @@ AllDiffer (f ∷ fs) = Lacks f fs × AllDiffer fs
 pub record HaveSymbols (layout : SourceLayout) (signatures : List Signature) : Type 0 where
   pub enough : length signatures ≤ length layout.functions
   pub differ : AllDiffer layout.functions
+
+-- each function that is defined takes as many arguments by its symbol as it has parameters
+abbrev pub AllTakeBySymbol : (takes : ℕ → ℕ) → SourceLayout → List Defined → Type 0
+AllTakeBySymbol takes layout [] = Unit {0}
+AllTakeBySymbol takes layout (d ∷ more) = (takes (slice_index_or layout.functions d.number 0) ≡ length d.function.parameters) × AllTakeBySymbol takes layout more

@@ -4,6 +4,13 @@
 mod laws;
 
 pub use laws::{
-    accepted_functions_are_small, accepted_values_are_assignable, planned_frames_have_few_privates,
+    accepted_functions_are_as_is_asked, accepted_functions_are_of_their_bodies,
+    accepted_functions_are_small, accepted_functions_name_whole_globals,
+    accepted_functions_take_what_they_have, accepted_sources_are_elaborated_alike,
+    accepted_values_are_assignable, expressions_name_whole_globals, globals_keep_their_types,
+    linked_programs_copy_whole, linked_programs_do_what_they_mean, linked_programs_fit,
+    linked_programs_name_what_is_made, names_mean_what_is_found, planned_frames_have_few_privates,
+    planned_functions_are_as_is_asked, planned_parameters_are_framed,
+    planned_sources_can_be_linked, plans_are_layouts, plans_have_symbols, programs_can_be_linked,
     symbols_can_take_parameters,
 };

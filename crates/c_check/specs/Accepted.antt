@@ -1,6 +1,6 @@
 -- When a source is accepted: the list of all broken rules is empty. A source with more nodes than there is room for is told first, then what its
 -- items break in their order, and last a source whose data is too large. The first and the last are told at the place of the first item.
-use Rattle.std.specs.Prelude.{◌≡◌, ℕ, ◌+◌, nat_lt, Bool, true, if◌then◌else◌, List, [], ◌∷◌, ◌++◌, Option, None, Some, Result, Ok, Err}
+use Rattle.std.specs.Prelude.{◌≡◌, ℕ, ◌+◌, nat_lt, Bool, true, if◌then◌else◌, List, [], ◌∷◌, ◌++◌, length, Option, None, Some, Result, Ok, Err}
 use Rattle.c_tree.specs.declared.tree.Tree.{Tree}
 use Rattle.c_tree.specs.declared.tree.Item.{Item}
 use Rattle.c_tree.specs.Count.{tree_nodes}
@@ -38,7 +38,7 @@ is_over None texts = true
 is_over (Some free) texts = nat_lt limit (free + texts)
 
 abbrev pub is_data_large : State → Bool
-is_data_large state = is_over (variables_placed state.scope.structs from_start state.scope.variables) state.notes.texts
+is_data_large state = is_over (variables_placed state.scope.structs from_start state.scope.variables) (length state.notes.literals)
 
 -- ---- the source
 

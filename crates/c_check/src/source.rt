@@ -1,11 +1,16 @@
 //! Whole sources.
 
-ghost use Rattle.std.specs.Prelude.{◌≡◌, ◌≤◌};
+ghost use Rattle.std.specs.Prelude.{◌≡◌, ◌≤◌, IfOk, IfErr};
+ghost use Rattle.c_tree.specs.Formed.{IsFormed};
 ghost use Rattle.c_check_typing.specs.Refusals.{all_at};
 ghost use Rattle.c_check_statements.specs.Placing.{from_start};
 ghost use Rattle.c_check.specs.Accepted as spec;
 ghost use Rattle.c_check.specs.Accepted.{Decides, RefusesFirst};
+ghost use Rattle.c_check.specs.Checked.{IsRefusal, SaysOf};
 
+use crate::checked::Checked;
+use crate::laws::accepted_sources_can_be_numbered;
+use crate::numbers::number_state;
 use c_check_rules::{LIMIT, StructInfo, Variable};
 use c_check_statements::{State, kind_placed, read_items, start_state};
 use c_check_typing::{CheckFault, CheckKind};
@@ -66,7 +71,7 @@ fn is_data_large(state: &State) -> bool
         state.scope.structs.as_slice(),
         state.scope.variables.as_slice(),
     );
-    is_over(free, state.notes.texts)
+    is_over(free, state.notes.literals.len() as u64)
 }
 
 /// What is known of a source, or the first rule that is broken in it.
@@ -84,4 +89,21 @@ pub fn read_source(alloc: Global, tree: &Tree, room: u32) -> Result<State, Check
     read_items(alloc, &mut state, items)?;
     refuse_first(items, CheckKind::LargeData, is_data_large(&state))?;
     Ok(state)
+}
+
+/// What an accepted source says, with its types by their numbers, or the first rule that is broken in it.
+///
+/// # Errors
+/// `Refused` with the first pair of the list of all broken rules and the places of their nodes; `OutOfMemory` where memory of the host is not to
+/// be had.
+pub fn check(alloc: Global, tree: &Tree, room: u32) -> Result<Checked, CheckFault>
+    requires few { room ≤ 32768 }
+    requires formed { IsFormed tree.now }
+    ensures accepted { IfOk result (SaysOf tree.now room) }
+    ensures refused { IfErr result (IsRefusal tree.now room) }
+{
+    let state = read_source(alloc, tree, room)?;
+    accepted_sources_can_be_numbered();
+    let checked = number_state(alloc, &state)?;
+    Ok(checked)
 }

@@ -1,5 +1,5 @@
 -- What is seen of each form of expression, by what is seen of its parts.
-use Rattle.std.proofs.Common.{ℕ, ◌≡◌, sym, ◌∙◌, ap, subst, rules, Bool, false, List, length, map}
+use Rattle.std.proofs.Common.{ℕ, ◌≡◌, sym, ◌∙◌, ap, subst, rules, Bool, false, List, map}
 use Rattle.std.specs.Prelude.{Option, Result, Err}
 use Rattle.mx_base.specs.declared.places.Place.{Place}
 use Rattle.mx_base.specs.declared.numbers.IntKind.{IntKind}
@@ -37,10 +37,10 @@ number_at p n k f s = search (rules, the_lemmas)
 pub number_is : (x : Expr) (n : ℕ) (k : IntKind) (f : Bool) (s : Scope) → x.kind ≡ v.Number n k → seen x f s ≡ leaf x.place (number_own n k)
 number_is x n k f s e = of_form x (v.Number n k) f s e ∙ number_at x.place n k f s
 
-pub text_at : (p : Place) (bytes : List ℕ) (f : Bool) (s : Scope) → seen (at p (v.Text bytes)) f s ≡ leaf p (text_own (length bytes))
+pub text_at : (p : Place) (bytes : List ℕ) (f : Bool) (s : Scope) → seen (at p (v.Text bytes)) f s ≡ leaf p (text_own bytes)
 text_at p bytes f s = search (rules, the_lemmas)
 
-pub text_is : (x : Expr) (bytes : List ℕ) (f : Bool) (s : Scope) → x.kind ≡ v.Text bytes → seen x f s ≡ leaf x.place (text_own (length bytes))
+pub text_is : (x : Expr) (bytes : List ℕ) (f : Bool) (s : Scope) → x.kind ≡ v.Text bytes → seen x f s ≡ leaf x.place (text_own bytes)
 text_is x bytes f s e = of_form x (v.Text bytes) f s e ∙ text_at x.place bytes f s
 
 pub name_at : (p : Place) (name : List ℕ) (f : Bool) (s : Scope) → seen (at p (v.Var name)) f s ≡ leaf p (name_own f (found_in s name))

@@ -1,5 +1,5 @@
 -- From the walks through a node's parts, and the end of the node itself, the walk through the node.
-use Rattle.std.proofs.Common.{◌≡◌, refl, sym, ◌∙◌, ap, subst, Bool, true, List, [], ◌∷◌, ◌++◌, map, ◌&&◌, ℕ, suc, ◌+◌, ◌<◌, ◌≤◌, length, drop, slice_index_or, add-one, drop-cons}
+use Rattle.std.proofs.Common.{◌≡◌, refl, sym, ◌∙◌, ap, subst, Bool, true, List, [], ◌∷◌, ◌++◌, map, ◌&&◌, ℕ, suc, ◌+◌, ◌<◌, ◌≤◌, length, take, drop, slice_index_or, add-one, drop-cons}
 use Rattle.std.proofs.lemmas.List.{drop_all}
 use Rattle.std.specs.Prelude.{Option, Some, Result, Ok, Err}
 use Rattle.mx_base.specs.declared.places.Place.{Place}
@@ -14,7 +14,7 @@ use Rattle.c_check_typing.specs.declared.fault.Broken.{Broken}
 use Rattle.c_check_typing.specs.declared.fault.CheckFault.{CheckFault}
 use Rattle.c_check_typing.specs.declared.fault.CheckFault.TheVariants.{Refused, OutOfMemory}
 use Rattle.c_check_typing.specs.Refusals.{FirstIs, broken_at, all_at}
-use Rattle.c_check_typing.specs.Notes.{Own, Seen, node, leaf, one, two, three, unevaluated, with_typed, Ends, Reads}
+use Rattle.c_check_typing.specs.Notes.{Own, Seen, node, leaf, one, two, three, first_literals, unevaluated, with_typed, Ends, Reads}
 use Rattle.c_check_typing.specs.Rules.{params_of, params_after, takes_function, argument_fits, is_empty, call_own}
 use Rattle.c_check_typing.specs.Expressions.{Reading, Arguments, arguments, and_fits, seen, call, ReadsAll}
 
@@ -204,10 +204,17 @@ no_argument args i h = drop_all i args h
 
 -- ---- what is not evaluated
 
-pub unevaluated_reads : {a : Seen} {old mid : Notes} {t : Typed}
-    → Reads a old (Ok t) mid → Reads (unevaluated a) old (Ok t) (record mid { texts = old.texts })
+pub unevaluated_reads : {a : Seen} {old mid : Notes} {t : Typed} {count : ℕ} {kept : List ℕ}
+    → count ≡ length old.literals → kept ≡ take count mid.literals → Reads a old (Ok t) mid → Reads (unevaluated a) old (Ok t) (record mid { literals = kept })
 unfolding unevaluated
-unevaluated_reads {a = a} {old = old} h = record { is = (h.is.0, h.is.1, ap (λ (n : Notes). let m : Notes = record n { texts = old.texts } in m) h.is.2) }
+unevaluated_reads {a = a} {old = old} {mid = mid} e k h = record {
+  is = (
+    h.is.0,
+    h.is.1,
+    ap (λ (l : List ℕ). let n : Notes = record mid { literals = l } in n) k
+        ∙ (ap (λ (n : ℕ). first_literals n mid) e ∙ ap (λ (n : Notes). first_literals (length old.literals) n) h.is.2),
+  );
+}
 
 pub unevaluated_stops : {a : Seen} {old mid : Notes} {x : CheckFault} → Reads a old (Err x) mid → Reads (unevaluated a) old (Err x) mid
 unfolding unevaluated

@@ -1,5 +1,5 @@
 -- The rules of each form are listed in the order of their kinds.
-use Rattle.std.proofs.Common.{◌≡◌, ℕ, refl, sym, subst, nat_lt, nat_eq, Bool, true, false, ◌&&◌, ◌||◌, not, List, [], ◌∷◌, ◌++◌}
+use Rattle.std.proofs.Common.{◌≡◌, ℕ, refl, sym, subst, nat_lt, nat_eq, Bool, true, false, ◌&&◌, ◌||◌, not, List, [], ◌∷◌, ◌++◌, length}
 use Rattle.std.specs.Prelude.{Option, None, Some, if◌then◌else◌, ◌==◌}
 use Rattle.c_tree.specs.declared.tree.Base.{Base}
 use Rattle.c_types.specs.Types.{CType, Pointer, Int}
@@ -71,9 +71,9 @@ unknown_place_type false false false = refl
 
 -- ---- forms
 
-pub text_order : (n : ℕ) → InOrder (text_own n).broken
+pub text_order : (bytes : List ℕ) → InOrder (text_own bytes).broken
 unfolding text_own
-text_order n = either (nat_lt n limit) _ _ refl refl
+text_order bytes = either (nat_lt (length bytes) limit) _ _ refl refl
 
 function_order : (functions : Bool) (bind : Bind) → Ordered (r.function_named functions bind)
 function_order true (d.Fun number) = refl

@@ -1,6 +1,6 @@
 //! Laws of what is seen of an expression. The functions do nothing: their contracts are the laws.
 
-ghost use Rattle.std.specs.Prelude.{◌≡◌, ℕ, Bool, false, ◌++◌, List, Option, length, map};
+ghost use Rattle.std.specs.Prelude.{◌≡◌, ℕ, Bool, false, ◌++◌, List, Option, map};
 ghost use Rattle.mx_base.specs.declared.places.Place.{Place};
 ghost use Rattle.mx_base.specs.declared.numbers.IntKind.{IntKind};
 ghost use Rattle.c_tree.specs.declared.tree.Base.{Base};
@@ -21,7 +21,7 @@ ghost use Rattle.c_check_typing.specs.Expressions.{seen, arguments, call};
 /// form, which knows of its parts their values alone.
 pub fn expressions_are_seen_by_their_parts()
     ensures number { (place : Place) (n : ℕ) (kind : IntKind) (functions : Bool) (scope : Scope) → seen (record { place = place; kind = v.Number n kind }) functions scope ≡ leaf place (rule.number_own n kind) }
-    ensures text { (place : Place) (bytes : List ℕ) (functions : Bool) (scope : Scope) → seen (record { place = place; kind = v.Text bytes }) functions scope ≡ leaf place (rule.text_own (length bytes)) }
+    ensures text { (place : Place) (bytes : List ℕ) (functions : Bool) (scope : Scope) → seen (record { place = place; kind = v.Text bytes }) functions scope ≡ leaf place (rule.text_own bytes) }
     ensures name { (place : Place) (name : List ℕ) (functions : Bool) (scope : Scope) → seen (record { place = place; kind = v.Var name }) functions scope ≡ leaf place (rule.name_own functions (found_in scope name)) }
     ensures unary { (place : Place) (op : ℕ) (a : Expr) (functions : Bool) (scope : Scope) → seen (record { place = place; kind = v.Unary op a }) functions scope ≡ one place (seen a false scope) (λ t. with_typed t (rule.unary_own scope.structs op)) }
     ensures binary { (place : Place) (op : ℕ) (a b : Expr) (functions : Bool) (scope : Scope) → seen (record { place = place; kind = v.Binary op a b }) functions scope ≡ two place (seen a false scope) (seen b false scope) (rule.binary_own scope.structs op) }
@@ -48,7 +48,7 @@ pub fn broken_rules_of_parts_come_first()
 
 /// Where one node breaks several rules, they are listed in the order of their kinds, and each once.
 pub fn rules_of_a_node_are_in_order()
-    ensures text { (n : ℕ) → InOrder (rule.text_own n).broken }
+    ensures text { (bytes : List ℕ) → InOrder (rule.text_own bytes).broken }
     ensures name { (functions : Bool) (found : Found) → InOrder (rule.name_own functions found).broken }
     ensures unary { (structs : List StructInfo) (op : ℕ) (a : Typed) → InOrder (rule.unary_own structs op a).broken }
     ensures binary { (structs : List StructInfo) (op : ℕ) (a b : Typed) → InOrder (rule.binary_own structs op a b).broken }

@@ -45,7 +45,7 @@ pub fn read_expr(
     let place = expr.place;
     match &expr.kind {
         ExprKind::Number(word, kind) => end_number(alloc, notes, place, *word, *kind),
-        ExprKind::Text(bytes) => end_text(alloc, notes, place, bytes.as_slice().len()),
+        ExprKind::Text(bytes) => end_text(alloc, notes, place, bytes.as_slice()),
         ExprKind::Var(name) => {
             let found = scope.find(alloc, name.as_slice())?;
             end_name(alloc, notes, place, functions, found)
@@ -100,9 +100,9 @@ pub fn read_expr(
             end_size_of_kind(alloc, scope, notes, place, base, *stars)
         }
         ExprKind::SizeOfValue(a) => {
-            let texts = notes.texts;
+            let literals = notes.literals.len();
             let t = read_expr(alloc, scope, notes, false, a.get())?;
-            notes.texts = texts;
+            notes.literals.truncate(literals);
             end_size(alloc, scope, notes, place, &t.kind)
         }
     }

@@ -8,27 +8,27 @@ use Rattle.c_check_typing.specs.declared.typed.Typed.{Typed}
 use Rattle.c_check_typing.specs.declared.typed.Notes.{Notes}
 use Rattle.c_check_typing.specs.declared.fault.CheckFault.{CheckFault}
 use Rattle.c_check_typing.specs.declared.fault.CheckFault.TheVariants.{Refused, OutOfMemory}
-use Rattle.c_check_typing.specs.Notes.{Seen, unevaluated, Reads}
+use Rattle.c_check_typing.specs.Notes.{Seen, first_literals, unevaluated, Reads}
 use Rattle.c_check_statements.specs.declared.initialisers.Filled.{Filled}
 use Rattle.c_check_statements.specs.declared.state.State.{State}
-use Rattle.c_check_statements.specs.Initialisers.{filling, fills_target, fills_known, filling_walk, kept_texts, fills, part, part_of, part_walk, parts}
+use Rattle.c_check_statements.specs.Initialisers.{filling, fills_target, fills_known, filling_walk, kept_texts, notes_word, fills, part, part_of, part_walk, parts}
 use Rattle.c_check_statements.specs.Walks.{Walked, Walk, past, seen_in, Walks, ReadsValue}
 use Rattle.c_check_statements.proofs.Steps.{next_of, then_go, then_stops}
 
 -- ---- one expression
 
 filled_by : (state : State) (s : Seen) (b : Bool) {new : Notes} {t : Typed} → Reads s state.notes (Ok t) new
-    → ReadsValue (Some t) (past (filling b s) state) (Ok t) (record state { notes = kept_texts b state.notes.texts new })
+    → ReadsValue (Some t) (past (filling b s) state) (Ok t) (record state { notes = kept_texts b (length state.notes.literals) new })
 unfolding past unevaluated
-filled_by state s true h = record { is = (h.is.0, refl, ap (λ (n : Notes). let m : State = record state { notes = record n { texts = state.notes.texts } } in m) h.is.2) }
+filled_by state s true h = record { is = (h.is.0, refl, ap (λ (n : Notes). let m : State = record state { notes = first_literals (length state.notes.literals) n } in m) h.is.2) }
 filled_by state s false h = record { is = (h.is.0, refl, ap (λ (n : Notes). let m : State = record state { notes = n } in m) h.is.2) }
 
-pub filling_ends : (state : State) (x : Expr) (target : Option CType) (b : Bool) {new last : Notes} {t : Typed} → Reads (seen_in state x) state.notes (Ok t) new → b ≡ fills_known target t.text
-    → last ≡ kept_texts b state.notes.texts new → ReadsValue (seen_in state x).typed (filling_walk target x state) (Ok t) (record state { notes = last })
-filling_ends state x target b {new = new} {last = last} {t = t} h e k =
-    subst (λ (n : Notes). ReadsValue (seen_in state x).typed (filling_walk target x state) (Ok t) (record state { notes = n })) (sym k)
-    (subst (λ (y : Option Typed). ReadsValue y (past (filling (fills_target target y) (seen_in state x)) state) (Ok t) (record state { notes = kept_texts b state.notes.texts new })) (sym h.is.1)
-    (subst (λ (c : Bool). ReadsValue (Some t) (past (filling c (seen_in state x)) state) (Ok t) (record state { notes = kept_texts b state.notes.texts new })) e (filled_by state (seen_in state x) b h)))
+pub filling_ends : (state : State) (x : Expr) (target : Option CType) (b : Bool) {count : ℕ} {new last : Notes} {t : Typed} → Reads (seen_in state x) state.notes (Ok t) new → b ≡ fills_known target t.text
+    → count ≡ length state.notes.literals → last ≡ kept_texts b count new → ReadsValue (seen_in state x).typed (filling_walk target x state) (Ok t) (record state { notes = last })
+filling_ends state x target b {new = new} {last = last} {t = t} h e n k =
+    subst (λ (n : Notes). ReadsValue (seen_in state x).typed (filling_walk target x state) (Ok t) (record state { notes = n })) (sym (k ∙ ap (λ (i : ℕ). kept_texts b i new) n))
+    (subst (λ (y : Option Typed). ReadsValue y (past (filling (fills_target target y) (seen_in state x)) state) (Ok t) (record state { notes = kept_texts b (length state.notes.literals) new })) (sym h.is.1)
+    (subst (λ (c : Bool). ReadsValue (Some t) (past (filling c (seen_in state x)) state) (Ok t) (record state { notes = kept_texts b (length state.notes.literals) new })) e (filled_by state (seen_in state x) b h)))
 
 stops_by : (state : State) (s : Seen) (b : Bool) (y : Option Typed) {old new : Notes} {last : State} (f : CheckFault) → Reads s old (Err f) new → ReadsValue y (past (filling b s) state) (Err f) last
 unfolding past unevaluated
@@ -40,6 +40,11 @@ pub filling_stops : (state : State) (x : Expr) (target : Option CType) {old new 
     → ReadsValue (seen_in state x).typed (filling_walk target x state) r last
 filling_stops state x target {last = last} {f = f} h e = subst (λ (q : Result Typed CheckFault). ReadsValue (seen_in state x).typed (filling_walk target x state) q last) (sym e)
     (stops_by state (seen_in state x) (fills_target target (seen_in state x).typed) (seen_in state x).typed f h)
+
+-- a word that is known of a value that was read before
+pub word_noted : (word : Option Typed → Option ℕ) {typed : Option Typed} {t : Typed} {given : Option ℕ} (old : State) {new : State} {r : Result (Unit {0}) CheckFault}
+    → typed ≡ Some t → given ≡ word (Some t) → Walks (notes_word given old) r new → Walks (notes_word (word typed) old) r new
+word_noted word old {new = new} {r = r} e g h = subst (λ (w : Option ℕ). Walks (notes_word w old) r new) (g ∙ ap word (sym e)) h
 
 -- ---- parts
 

@@ -218,10 +218,14 @@ abbrev pub number_in : (count : ℕ) → Option ℕ → ℕ
 number_in count None = numbered count
 number_in count (Some at) = numbered at
 
+abbrev pub global_number : List ℕ → Scope → ℕ
+global_number name scope = number_in (length scope.variables) (variable_at scope name)
+
 abbrev pub with_variable : List ℕ → (defined : Bool) → CType → State → State
 with_variable name defined kind state = record state {
   scope = record state.scope { variables = put_variable state.scope.variables (variable_at state.scope name) record { name = name; kind = kind; defined = defined } };
-  notes = noted (b.Global (number_in (length state.scope.variables) (variable_at state.scope name))) kind state.notes;
+  notes = noted (b.Global (global_number name state.scope)) kind state.notes;
+  global_items = state.global_items ++ global_number name state.scope ∷ [];
 }
 
 -- a global of the name `main` is BadType

@@ -1,6 +1,6 @@
 -- Initialisers by the type that they fill. A scalar takes an expression that converts to it; an array of `char` takes a text that fits with or
 -- without its end byte; an array or struct takes a list in braces of at most its parts; and a local struct takes one of the same struct. Of a
--- global an integer takes a constant, and a pointer the number 0.
+-- global an integer takes a constant, whose word in the integer's type is noted, and a pointer the number 0.
 use Rattle.std.specs.Prelude.{ℕ, ◌+◌, nat_le, nat_lt, Bool, true, false, not, ◌&&◌, ◌||◌, if◌then◌else◌, List, [], ◌∷◌, ◌++◌, length, slice_get, Option, None, Some}
 use Rattle.mx_base.specs.declared.places.Place.{Place}
 use Rattle.mx_base.specs.declared.numbers.IntKind.{IntKind}
@@ -14,7 +14,10 @@ use Rattle.c_check_rules.specs.declared.kinds.Outer.{Outer}
 use Rattle.c_check_rules.specs.declared.kinds.Outer.TheVariants as o
 use Rattle.c_check_rules.specs.declared.names.StructInfo.{StructInfo}
 use Rattle.c_check_rules.specs.declared.names.Member.{Member}
+use Rattle.c_check_rules.specs.declared.constants.Constant.{Constant}
+use Rattle.c_check_rules.specs.declared.constants.Constant.TheVariants as c
 use Rattle.c_check_rules.specs.Kinds.{outer_of, inner_of}
+use Rattle.c_check_rules.specs.Constants.{cast_constant}
 use Rattle.c_check_rules.specs.Names.{member_kind}
 use Rattle.c_check_rules.specs.Conversions.{converts, fits_struct, is_integer_form}
 use Rattle.c_check_typing.specs.declared.typed.Typed.{Typed}
@@ -22,7 +25,7 @@ use Rattle.c_check_typing.specs.declared.typed.Notes.{Notes}
 use Rattle.c_check_typing.specs.declared.fault.CheckKind.{CheckKind}
 use Rattle.c_check_typing.specs.declared.fault.CheckKind.TheVariants.{NotConst, NotPlace, BadType}
 use Rattle.c_check_typing.specs.Refusals.{breaks}
-use Rattle.c_check_typing.specs.Notes.{Seen, unevaluated}
+use Rattle.c_check_typing.specs.Notes.{Seen, unevaluated, first_literals, with_constant}
 use Rattle.c_check_typing.specs.Rules.{decayed, is_no_source, members_in}
 use Rattle.c_check_statements.specs.declared.initialisers.Filled.{Filled}
 use Rattle.c_check_statements.specs.declared.initialisers.Filled.TheVariants as f
@@ -116,9 +119,29 @@ abbrev pub filling : (fills : Bool) → Seen → Seen
 filling true x = unevaluated x
 filling false x = x
 
-abbrev pub kept_texts : (fills : Bool) → (texts : ℕ) → Notes → Notes
-kept_texts true texts notes = record notes { texts = texts }
-kept_texts false texts notes = notes
+-- so only the literals before it stay, of this many bytes
+abbrev pub kept_texts : (fills : Bool) → (count : ℕ) → Notes → Notes
+kept_texts true count notes = first_literals count notes
+kept_texts false count notes = notes
+
+-- ---- the words of globals
+
+abbrev pub word_of : Constant → Option ℕ
+word_of (c.Value word) = Some word
+word_of c.Stops = None
+word_of c.No = None
+
+-- a global's integer begins with the word of its constant in its own type
+abbrev pub first_word : Filled → Outer → Constant → Option ℕ
+first_word filled form constant = if needs_constant filled form then word_of (cast_constant form constant) else None
+
+abbrev pub one_word : Filled → (target : Option CType) → Option Typed → Option ℕ
+one_word filled None t = None
+one_word filled (Some kind) None = None
+one_word filled (Some kind) (Some t) = first_word filled (outer_of kind) t.constant
+
+unfoldable pub notes_word : Option ℕ → Walk
+notes_word word state = record { state = record state { notes = with_constant word state.notes }; broken = [] }
 
 -- ---- a list in braces
 
@@ -179,7 +202,7 @@ filling_walk target x state = past (filling (fills_target target (seen_in state 
 
 abbrev pub one : Filled → Option CType → Place → Expr → Walk
 one filled target place x state = (filling_walk target x
-    then at_node place (one_kinds filled target (seen_in state x).typed)) state
+    then (at_node place (one_kinds filled target (seen_in state x).typed) then notes_word (one_word filled target (seen_in state x).typed))) state
 
 abbrev pub init_step : InitKind-F (Place → Filling) Filling → Place → Filling
 init_step (i.One x) place filled target state = one filled target place x state

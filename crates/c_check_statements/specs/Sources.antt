@@ -40,4 +40,5 @@ at_start = record {
   scope = record { structs = []; variables = []; functions = []; locals = []; from = 0; made = []; result = Void; in_loop = false; at_body = false };
   notes = no_notes;
   bodies = [];
+  global_items = [];
 }

@@ -345,6 +345,7 @@ fn add_variable(
             defined,
         },
     )?;
+    state.global_items.push(number)?;
     note_declared(alloc, &mut state.notes, Bind::Global(number), kind)
 }
 

@@ -10,7 +10,9 @@ use crate::counts::open_constant;
 use crate::reading::refused;
 use crate::state::State;
 use c_check_expressions::read_expr;
-use c_check_rules::{Outer, StructInfo, Type, converts, fits_struct, member_kind};
+use c_check_rules::{
+    Constant, Outer, StructInfo, Type, cast_constant, converts, fits_struct, member_kind,
+};
 use c_check_typing::{CheckFault, CheckKind, Notes, Typed, is_no_source};
 use c_tree::{Expr, Init, InitKind};
 use mx_base::{IntKind, OutOfMemory, Place};
@@ -144,6 +146,49 @@ fn fills_target(target: Option<&Type>, text: Option<usize>) -> bool
     }
 }
 
+// ---- the words of globals
+
+fn word_of(constant: Constant) -> Option<u64>
+    ensures { result ≡ spec.word_of constant }
+{
+    match constant {
+        Constant::Value(word) => Some(word),
+        Constant::Stops => None,
+        Constant::No => None,
+    }
+}
+
+/// The word that a global's integer begins with: that of its constant in its own type.
+fn first_word(filled: Filled, form: Outer, constant: Constant) -> Option<u64>
+    ensures { result ≡ spec.first_word filled form constant }
+{
+    if needs_constant(filled, form) {
+        word_of(cast_constant(form, constant))
+    } else {
+        None
+    }
+}
+
+fn one_word(filled: Filled, target: Option<&Type>, t: &Typed) -> Option<u64>
+    ensures { result ≡ spec.one_word filled (option_copied target.entry) (Some t.now) }
+{
+    match target {
+        Some(kind) => first_word(filled, kind.outer(), t.constant),
+        None => None,
+    }
+}
+
+/// Notes the word that a global's integer begins with, if it is one.
+#[tactic(auto, unfolding(crate::specs::Initialisers::notes_word))]
+fn note_word(state: &mut State, word: Option<u64>) -> Result<(), CheckFault>
+    ensures { Walks (spec.notes_word word state.old) result state.new }
+{
+    if let Some(word) = word {
+        state.notes.constants.push(word)?;
+    }
+    Ok(())
+}
+
 // ---- a list in braces
 
 fn members_of(structs: &[StructInfo], number: u32) -> usize
@@ -250,12 +295,12 @@ fn part(filled: Filled) -> Filled
 
 // ---- initialisers
 
-/// Puts the count of the bytes of texts back to what it was, if a text fills an array.
-fn keep_texts(notes: &mut Notes, texts: u64, fills: bool)
-    ensures { notes.new ≡ spec.kept_texts fills texts notes.old }
+/// Keeps the literals before a text that fills an array, of so many bytes.
+fn keep_texts(notes: &mut Notes, count: usize, fills: bool)
+    ensures { notes.new ≡ spec.kept_texts fills count notes.old }
 {
     if fills {
-        notes.texts = texts;
+        notes.literals.truncate(count);
     }
 }
 
@@ -268,10 +313,10 @@ fn read_filling(
 ) -> Result<Typed, CheckFault>
     ensures { ReadsValue ((seen_in state.old expr.now).typed) (spec.filling_walk (option_copied target.entry) expr.now state.old) result state.new }
 {
-    let texts = state.notes.texts;
+    let count = state.notes.literals.len();
     let t = read_expr(alloc, &state.scope, &mut state.notes, false, expr)?;
     let fills = fills_target(target, t.text);
-    keep_texts(&mut state.notes, texts, fills);
+    keep_texts(&mut state.notes, count, fills);
     Ok(t)
 }
 
@@ -287,7 +332,8 @@ fn read_one(
     ensures { Walks (spec.one filled (option_copied target.entry) place expr.now state.old) result state.new }
 {
     let t = read_filling(alloc, state, target, expr)?;
-    judge_one(alloc, filled, target, place, &t)
+    judge_one(alloc, filled, target, place, &t)?;
+    note_word(state, one_word(filled, target, &t))
 }
 
 /// Reads an initialiser by what it fills and its type, if it is known.

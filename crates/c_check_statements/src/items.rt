@@ -10,7 +10,7 @@ use crate::initialisers::{Filled, read_maybe_init};
 use crate::state::State;
 use crate::structs::read_struct;
 use c_check_rules::{Scope, Type};
-use c_check_typing::{CheckFault, Notes};
+use c_check_typing::{CheckFault, Literals, Notes};
 use c_tree::{Decl, Init, Item, ItemKind};
 use sqlite_items::Items;
 use std::alloc::Global;
@@ -82,8 +82,10 @@ pub fn start_state(alloc: Global) -> State
             binds: Items::new(alloc),
             declared: Items::new(alloc),
             taken: Items::new(alloc),
-            texts: 0,
+            constants: Items::new(alloc),
+            literals: Literals::new(alloc),
         },
         bodies: Items::new(alloc),
+        global_items: Items::new(alloc),
     }
 }

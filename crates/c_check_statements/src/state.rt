@@ -18,10 +18,12 @@ pub struct Body {
     pub variables: Items<BodyVariable>,
 }
 
-/// What is known after a part of a tree: the names, the notes, and the functions with a body in order.
+/// What is known after a part of a tree: the names, the notes, the functions with a body in order, and the number of the global that each
+/// declaration of one declares, in order.
 #[derive(Drop)]
 pub struct State {
     pub scope: Scope,
     pub notes: Notes,
     pub bodies: Items<Body>,
+    pub global_items: Items<u32>,
 }

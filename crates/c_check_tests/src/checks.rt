@@ -3,7 +3,7 @@
 ghost use Rattle.std.specs.Prelude.{◌≡◌, ℕ, ◌≤◌, Ok, length};
 ghost use Rattle.c_tokens.specs.Tokens.{tokens_of};
 
-use c_check::read_source;
+use c_check::check;
 use c_reader::read;
 use c_tokens::{Token, tokens};
 use std::alloc::{AllocError, Global};
@@ -32,8 +32,8 @@ fn checked(alloc: Global, found: &[Token], bytes: &[u8]) -> Result<String, Alloc
         Ok(tree) => tree,
         Err(fault) => return format!(in alloc; "{fault}"),
     };
-    match read_source(alloc, &tree, 32_768) {
-        Ok(_state) => String::from_str(alloc, "accepted"),
+    match check(alloc, &tree, 32_768) {
+        Ok(_checked) => String::from_str(alloc, "accepted"),
         Err(fault) => format!(in alloc; "{fault}"),
     }
 }

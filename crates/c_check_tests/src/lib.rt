@@ -3,3 +3,9 @@
 
 #[cfg(test)]
 mod checks;
+#[cfg(test)]
+mod noted;
+#[cfg(test)]
+mod plans;
+#[cfg(test)]
+mod says;

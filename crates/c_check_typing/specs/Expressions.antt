@@ -1,5 +1,5 @@
 -- What is seen of an expression in a scope, from its leaves up.
-use Rattle.std.specs.Prelude.{◌≡◌, Bool, true, false, ◌&&◌, List, [], ◌∷◌, ◌++◌, length, Option, None, Some, Result, Ok, Err}
+use Rattle.std.specs.Prelude.{◌≡◌, Bool, true, false, ◌&&◌, List, [], ◌∷◌, ◌++◌, Option, None, Some, Result, Ok, Err}
 use Rattle.mx_base.specs.declared.places.Place.{Place}
 use Rattle.c_tree.specs.declared.tree.Expr.{Expr, fold-Expr}
 use Rattle.c_tree.specs.declared.tree.ExprKind.{ExprKind-F}
@@ -58,7 +58,7 @@ call place scope found all = call_seen place found (arguments scope (Some true) 
 
 abbrev pub kind_step : ExprKind-F (Place → Reading) Reading → Place → Reading
 kind_step (e.Number n kind) place functions scope = leaf place (number_own n kind)
-kind_step (e.Text bytes) place functions scope = leaf place (text_own (length bytes))
+kind_step (e.Text bytes) place functions scope = leaf place (text_own bytes)
 kind_step (e.Var name) place functions scope = leaf place (name_own functions (found_in scope name))
 kind_step (e.Unary op a) place functions scope = one place (a false scope) (λ x. with_typed x (unary_own scope.structs op))
 kind_step (e.Binary op a b) place functions scope = two place (a false scope) (b false scope) (binary_own scope.structs op)

@@ -1,7 +1,8 @@
 -- What is seen of an expression: its type and what else is known of its value, what it adds to the notes on the tree, and the rules that are
 -- broken in it. Notes have the type of each expression, the meaning of each name and the type of each
--- declaration, in tree order: children before their parent, from left to right; the locals that `&` is applied to; and the bytes of the literals.
-use Rattle.std.specs.Prelude.{◌≡◌, ℕ, ◌+◌, min, true, false, List, [], ◌∷◌, ◌++◌, Option, None, Some, Result, Ok, Err}
+-- declaration, in tree order: children before their parent, from left to right; the locals that `&` is applied to; the words of the constants of
+-- globals; and the bytes of the literals.
+use Rattle.std.specs.Prelude.{◌≡◌, ℕ, true, false, List, [], ◌∷◌, ◌++◌, length, take, Option, None, Some, Result, Ok, Err}
 use Rattle.mx_base.specs.declared.places.Place.{Place}
 use Rattle.c_types.specs.Types.{CType}
 use Rattle.c_check_rules.specs.declared.constants.Constant.{Constant}
@@ -28,7 +29,7 @@ place kind = record (value kind c.No) { is_place = true }
 -- ---- notes
 
 abbrev pub no_notes : Notes
-no_notes = record { kinds = []; binds = []; declared = []; taken = []; texts = 0 }
+no_notes = record { kinds = []; binds = []; declared = []; taken = []; constants = []; literals = [] }
 
 abbrev pub with_kind : CType → Notes → Notes
 with_kind kind notes = record notes { kinds = notes.kinds ++ kind ∷ [] }
@@ -44,13 +45,18 @@ abbrev pub with_taken : Option ℕ → Notes → Notes
 with_taken None notes = notes
 with_taken (Some local) notes = record notes { taken = notes.taken ++ local ∷ [] }
 
--- the most that 64 bits hold
-abbrev pub most : ℕ
-most = 0xffff_ffff_ffff_ffff
+-- an integer of a global begins with this word, if it is one
+abbrev pub with_constant : Option ℕ → Notes → Notes
+with_constant None notes = notes
+with_constant (Some word) notes = record notes { constants = notes.constants ++ word ∷ [] }
 
--- a text literal of so many bytes, with the byte 0 at its end
-abbrev pub with_text : ℕ → Notes → Notes
-with_text bytes notes = record notes { texts = min (notes.texts + (bytes + 1)) most }
+-- a text literal of these bytes, with the byte 0 at its end
+abbrev pub with_text : List ℕ → Notes → Notes
+with_text bytes notes = record notes { literals = notes.literals ++ (bytes ++ 0 ∷ []) }
+
+-- of the bytes of literals the first alone
+abbrev pub first_literals : (count : ℕ) → Notes → Notes
+first_literals count notes = record notes { literals = take count notes.literals }
 
 abbrev pub unchanged : Notes → Notes
 unchanged notes = notes
@@ -96,9 +102,10 @@ pub record Seen : Type 0 where
 abbrev pub node : Place → List Broken → (Notes → Notes) → Own → Seen
 node place broken after own = record { typed = own.typed; after = λ notes. own.noted (after notes); broken = broken ++ all_at place own.broken }
 
--- what stands under `sizeof`, and a text that initialises an array of `char`, is not evaluated: its texts are no literals
+-- what stands under `sizeof`, and a text that initialises an array of `char`, is not evaluated: its texts are no literals, and only those that were
+-- noted before it stay
 unfoldable pub unevaluated : Seen → Seen
-unevaluated a = record a { after = λ notes. record (a.after notes) { texts = notes.texts } }
+unevaluated a = record a { after = λ notes. first_literals (length notes.literals) (a.after notes) }
 
 -- a node without parts, and with one, two or three of them
 unfoldable pub leaf : Place → Own → Seen

@@ -1,6 +1,6 @@
 -- The rules of expressions, each at one node. A value's own type is that before an array has become a pointer to its first element. Where a node
 -- breaks several rules, they are listed in the order of their kinds.
-use Rattle.std.specs.Prelude.{ℕ, zero, suc, ◌+◌, ◌==◌, nat_lt, Bool, true, false, not, ◌&&◌, ◌||◌, if◌then◌else◌, is_some, List, [], ◌∷◌, ◌++◌, Option, None, Some, slice_get}
+use Rattle.std.specs.Prelude.{ℕ, zero, suc, ◌+◌, ◌==◌, nat_lt, Bool, true, false, not, ◌&&◌, ◌||◌, if◌then◌else◌, is_some, List, [], ◌∷◌, ◌++◌, length, Option, None, Some, slice_get}
 use Rattle.mx_base.specs.declared.numbers.IntKind.{IntKind}
 use Rattle.mx_base.specs.declared.numbers.IntKind.TheVariants.{I8, I32, U64}
 use Rattle.c_tree.specs.declared.tree.Base.{Base}
@@ -74,12 +74,16 @@ of_kind (Some kind) constant = fine (value kind constant)
 abbrev pub number_own : ℕ → IntKind → Own
 number_own n kind = fine (record (value (Int kind) (c.Value n)) { is_zero = n == 0 })
 
-abbrev pub literal : ℕ → Typed → Own
-literal n t = record { typed = Some t; noted = λ notes. with_kind t.kind (with_text n notes); broken = [] }
+abbrev pub literal : List ℕ → Typed → Own
+literal bytes t = record { typed = Some t; noted = λ notes. with_kind t.kind (with_text bytes notes); broken = [] }
+
+-- a text of n bytes
+abbrev pub text_typed : (n : ℕ) → Typed
+text_typed n = record (value (Array (Int I8) (n + 1)) c.No) { text = Some n }
 
 -- a text of n bytes is an array of n + 1 `char`, and BadCount where that is over the limit
-unfoldable pub text_own : ℕ → Own
-text_own n = if nat_lt n limit then literal n (record (value (Array (Int I8) (n + 1)) c.No) { text = Some n }) else wrong (BadCount ∷ [])
+unfoldable pub text_own : List ℕ → Own
+text_own bytes = if nat_lt (length bytes) limit then literal bytes (text_typed (length bytes)) else wrong (BadCount ∷ [])
 
 -- ---- names
 

@@ -119,29 +119,30 @@ pub fn end_size_of_kind(
     end_size(alloc, scope, notes, place, &kind)
 }
 
-/// Ends a text of so many bytes.
+/// Ends a text of these bytes.
 #[tactic(auto, unfolding(crate::specs::Rules::text_own))]
 pub fn end_text(
     alloc: Global,
     notes: &mut Notes,
     place: Place,
-    bytes: usize,
+    bytes: &[u8],
 ) -> Result<Typed, CheckFault>
-    ensures { Ends (rule.text_own bytes) place notes.old result notes.new }
+    ensures { Ends (rule.text_own bytes.now) place notes.old result notes.new }
 {
-    if LIMIT <= bytes as u64 {
+    let count = bytes.len();
+    if LIMIT <= count as u64 {
         return end_wrong(place, CheckKind::BadCount);
     }
     let byte = Type::int(alloc, IntKind::I8);
-    let kind = byte.array_of(alloc, bytes as u64 + 1)?;
+    let kind = byte.array_of(alloc, count as u64 + 1)?;
     let t = Typed {
         kind,
         is_place: false,
         is_zero: false,
         constant: Constant::No,
-        text: Some(bytes),
+        text: Some(count),
         local: None,
     };
-    notes.texts = notes.texts.saturating_add(bytes as u64 + 1);
+    notes.literals.push(bytes)?;
     end_fine(alloc, notes, place, t)
 }

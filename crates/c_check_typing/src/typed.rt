@@ -7,6 +7,7 @@ ghost use Rattle.c_check_typing.specs.declared.fault.CheckFault.TheVariants.{Ref
 ghost use Rattle.c_check_typing.specs.Rules as rule;
 
 use crate::fault::{CheckFault, CheckKind};
+use crate::literals::Literals;
 use c_check_rules::{Bind, Constant, Outer, Type};
 use mx_base::{IntKind, OutOfMemory, Place};
 use sqlite_items::Items;
@@ -38,8 +39,10 @@ pub struct Notes {
     pub declared: Items<Type>,
     /// The numbers of the parameters and locals of the function to which `&` is applied.
     pub taken: Items<u32>,
-    /// The bytes of all text literals, each with the byte 0 at its end, or 2^64 - 1 where there are more.
-    pub texts: u64,
+    /// The words of the constants that initialise the integers of globals, each in the type of its integer.
+    pub constants: Items<u64>,
+    /// The bytes of all text literals, each with the byte 0 at its end.
+    pub literals: Literals,
 }
 
 impl Typed {

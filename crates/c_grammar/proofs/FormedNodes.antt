@@ -15,7 +15,7 @@ use Rattle.c_tree.specs.declared.tree.StmtKind.{StmtKind}
 use Rattle.c_tree.specs.declared.tree.StmtKind.TheVariants as s
 use Rattle.c_tree.specs.declared.tree.StmtKind.TheVariants.{outs-If}
 use Rattle.c_tree.specs.Names.{is_name}
-use Rattle.c_tree.specs.Formed.{stands, every, is_number, is_unary, is_binary, is_compound, formed_base, formed_expr, maybe_expr, formed_decl, formed_init, maybe_init, Seen, is_branch, seen_stmt}
+use Rattle.c_tree.specs.Formed.{stands, every, is_number, is_unary, is_binary, is_compound, few_stars, formed_base, formed_expr, maybe_expr, formed_decl, formed_init, maybe_init, Seen, is_branch, seen_stmt}
 
 abbrev at : Place → ExprKind → Expr
 at p k = record { place = p; kind = k }
@@ -56,10 +56,10 @@ member p a name = search (rules, expr_lemmas)
 pub arrow : (p : Place) (a : Expr) (name : List ℕ) → formed_expr (at p (e.Arrow a name)) ≡ (stands p && (formed_expr a && is_name name))
 arrow p a name = search (rules, expr_lemmas)
 
-pub cast : (p : Place) (base : Base) (stars : ℕ) (a : Expr) → formed_expr (at p (e.Cast base stars a)) ≡ (stands p && (formed_base base && formed_expr a))
+pub cast : (p : Place) (base : Base) (stars : ℕ) (a : Expr) → formed_expr (at p (e.Cast base stars a)) ≡ (stands p && (formed_base base && few_stars stars && formed_expr a))
 cast p base stars a = search (rules, expr_lemmas)
 
-pub size_of_kind : (p : Place) (base : Base) (stars : ℕ) → formed_expr (at p (e.SizeOfKind base stars)) ≡ (stands p && formed_base base)
+pub size_of_kind : (p : Place) (base : Base) (stars : ℕ) → formed_expr (at p (e.SizeOfKind base stars)) ≡ (stands p && (formed_base base && few_stars stars))
 size_of_kind p base stars = search (rules, expr_lemmas)
 
 pub size_of_value : (p : Place) (a : Expr) → formed_expr (at p (e.SizeOfValue a)) ≡ (stands p && formed_expr a)

@@ -1,6 +1,7 @@
 -- What the grammar relates to tokens that stand and are named is formed.
-use Rattle.std.proofs.Common.{◌≡◌, inl, inr, ℕ, zero, suc, Bool, true, false, ◌&&◌, not, List, [], ◌∷◌, ◌++◌, map, Option, Some, None, refl, sym, ◌∙◌, ap, subst}
+use Rattle.std.proofs.Common.{◌≡◌, inl, inr, ℕ, zero, suc, ◌+◌, ◌≤◌, arith, Bool, true, false, ◌&&◌, not, List, [], ◌∷◌, ◌++◌, map, Option, Some, None, refl, sym, ◌∙◌, ap, subst}
 use Rattle.std.specs.List.{All, list_all}
+use Rattle.std.proofs.lemmas.Bool.Decides.{nat_tests}
 use Rattle.std.proofs.lemmas.List.Elements.{All-nil, All-cons, All-head, All-tail}
 use Rattle.std.proofs.lemmas.List.Folds.{list_all-append}
 use Rattle.mx_base.specs.declared.places.Place.{Place}
@@ -21,7 +22,7 @@ use Rattle.c_tree.specs.declared.tree.StmtKind.TheVariants as st
 use Rattle.c_tree.specs.declared.tree.Item.{Item}
 use Rattle.c_tree.specs.declared.tree.ItemKind.TheVariants as it
 use Rattle.c_tree.specs.Names.{is_name}
-use Rattle.c_tree.specs.Formed.{stands, every, is_binary, is_compound, formed_base, formed_expr, maybe_expr, formed_decl, is_empty, formed_init, maybe_init, Seen, is_branch, maybe_branch, seen_stmt, without_counts, formed_body, formed_item}
+use Rattle.c_tree.specs.Formed.{stands, every, is_binary, is_compound, few_stars, formed_base, formed_expr, maybe_expr, formed_decl, is_empty, formed_init, maybe_init, Seen, is_branch, maybe_branch, seen_stmt, without_counts, formed_body, formed_item}
 use Rattle.c_grammar.specs.declared.parts.Mark.{Mark}
 use Rattle.c_grammar.specs.declared.parts.Named.{Named}
 use Rattle.c_grammar.specs.declared.parts.Operand.{Operand}
@@ -96,11 +97,15 @@ Sides a = T (stands a.start) × T (formed_expr a.tree)
 abbrev Based : Typed → Type 0
 Based t = T (stands t.start) × T (formed_base t.base)
 
+abbrev Kind : KindName → Type 0
+Kind t = T (formed_base t.base) × T (few_stars t.stars)
+
 abbrev Name : Named → Type 0
 Name name = T (stands name.place) × T (is_name name.name)
 
 pub record Declares (d : Declarator) : Type 0 where
   pub start : T (stands d.start)
+  pub stars : T (few_stars d.stars)
   pub name : T (is_name d.name)
   pub counts : T (list_all formed_expr d.counts)
 
@@ -118,7 +123,7 @@ abbrev pub Formed : Property
 Formed n.Source v = T (list_all formed_item v)
 Formed n.External v = T (list_all formed_item v)
 Formed n.AfterTag v = (start : Place) (tag : List ℕ) → T (stands start) → T (is_name tag) → T (list_all formed_item (v start tag))
-Formed n.AfterName v = (start : Place) (base : Base) (stars : ℕ) (name : Named) → T (stands start) → T (formed_base base) → Name name → T (list_all formed_item (v start base stars name))
+Formed n.AfterName v = (start : Place) (base : Base) (stars : ℕ) (name : Named) → T (stands start) → T (formed_base base) → T (few_stars stars) → Name name → T (list_all formed_item (v start base stars name))
 Formed n.Ending v = T (formed_body v)
 Formed n.Parameters v = T (list_all without_counts v)
 Formed n.AfterVoid v = (start : Place) → T (stands start) → T (list_all without_counts (v start))
@@ -130,8 +135,8 @@ Formed n.Integer v = T (stands v.0)
 Formed n.PlainBase v = Based v
 Formed n.ObjectBase v = Based v
 Formed n.AnyBase v = Based v
-Formed n.TypeName v = T (formed_base v.base)
-Formed (n.Stars most) v = Unit {0}
+Formed n.TypeName v = Kind v
+Formed (n.Stars most) v = v ≤ most
 Formed n.Member v = T (list_all formed_decl v) × T (not (is_empty v))
 Formed n.Members v = T (list_all formed_decl v)
 Formed n.Declared v = Declares v
@@ -196,6 +201,9 @@ and4 {a = true} {b = true} {c = false} {d = d} p q r s = cc
 and4 {a = true} {b = false} {c = c} {d = d} p q r s = cc
 and4 {a = false} {b = b} {c = c} {d = d} p q r s = cc
 
+few : (stars : ℕ) → stars ≤ 255 → T (few_stars stars)
+few stars h = grind (arith, nat_tests, h)
+
 binary_op_ok : (c : Class) → T (is_binary (made.binary_op c))
 binary_op_ok k.Slash = refl
 binary_op_ok k.Percent = refl
@@ -247,11 +255,11 @@ assigned_ok op a b x y = (x.0, node.assign a.start (made.assign_op op.class) a.t
 chosen_ok : (a b c : Operand) → Sides a → Sides b → Sides c → Sides (made.chosen a b c)
 chosen_ok a b c x y z = (x.0, node.cond a.start a.tree b.tree c.tree ∙ and2 x.0 (and3 x.1 y.1 z.1))
 
-cast_ok : (p : Place) (t : KindName) (a : Operand) → T (stands p) → T (formed_base t.base) → Sides a → Sides (made.cast_at p t a)
-cast_ok p t a s f x = (s, node.cast p t.base t.stars a.tree ∙ and2 s (and2 f x.1))
+cast_ok : (p : Place) (t : KindName) (a : Operand) → T (stands p) → Kind t → Sides a → Sides (made.cast_at p t a)
+cast_ok p t a s f x = (s, node.cast p t.base t.stars a.tree ∙ and2 s (and3 f.0 f.1 x.1))
 
-size_of_kind_ok : (p : Place) (t : KindName) → T (stands p) → T (formed_base t.base) → Sides (made.size_of_kind p t)
-size_of_kind_ok p t s f = (s, node.size_of_kind p t.base t.stars ∙ and2 s f)
+size_of_kind_ok : (p : Place) (t : KindName) → T (stands p) → Kind t → Sides (made.size_of_kind p t)
+size_of_kind_ok p t s f = (s, node.size_of_kind p t.base t.stars ∙ and2 s (and2 f.0 f.1))
 
 size_of_value_ok : (p : Place) (a : Operand) → T (stands p) → Sides a → Sides (made.size_of_value p a)
 size_of_value_ok p a s x = (s, node.size_of_value p a.tree ∙ and2 s x.1)
@@ -277,10 +285,10 @@ stepped_ok up a x = (x.0, node.step_by a.start up false a.tree ∙ and2 x.0 x.1)
 -- ---- declarations
 
 decl_ok : (p : Place) (base : Base) (d : Declarator) → T (stands p) → T (formed_base base) → Declares d → T (formed_decl (made.decl_from p base d))
-decl_ok p base d s f x = and4 s f x.name x.counts
+decl_ok p base d s f x = and2 (and4 s f x.stars x.name) x.counts
 
-parameter_ok : (p : Place) (base : Base) (stars : ℕ) (name : Named) → T (stands p) → T (formed_base base) → Name name → T (without_counts (made.parameter p base stars name))
-parameter_ok p base stars name s f x = and2 (and4 s f x.1 refl) refl
+parameter_ok : (p : Place) (base : Base) (stars : ℕ) (name : Named) → T (stands p) → T (formed_base base) → T (few_stars stars) → Name name → T (without_counts (made.parameter p base stars name))
+parameter_ok p base stars name s f u x = and2 (and2 (and4 s f u x.1) refl) refl
 
 later_ok : (base : Base) → T (formed_base base) → (ds : List Declarator) → Each Declares ds → T (list_all formed_decl (map (made.later_decl base) ds))
 later_ok base f [] x = refl
@@ -315,8 +323,8 @@ decls_ok t first more x d m = and2 (decl_ok t.start t.base first x.0 x.1 d) (lat
 append_ok : {A : Type 0} (p : A → Bool) (xs ys : List A) → T (list_all p xs) → T (list_all p ys) → T (list_all p (xs ++ ys))
 append_ok p xs ys x y = list_all-append p xs ys ∙ and2 x y
 
-function_ok : (start : Place) (base : Base) (stars : ℕ) (name : Named) (params : List Decl) (body : Option Stmt) → T (stands start) → T (formed_base base) → Name name → T (list_all without_counts params) → T (formed_body body) → T (list_all formed_item (made.function_item start base stars name params body))
-function_ok start base stars name params body s f x p b = and2 (and2 s (and3 (parameter_ok start base stars name s f x) p b)) refl
+function_ok : (start : Place) (base : Base) (stars : ℕ) (name : Named) (params : List Decl) (body : Option Stmt) → T (stands start) → T (formed_base base) → T (few_stars stars) → Name name → T (list_all without_counts params) → T (formed_body body) → T (list_all formed_item (made.function_item start base stars name params body))
+function_ok start base stars name params body s f u x p b = and2 (and2 s (and3 (parameter_ok start base stars name s f u x) p b)) refl
 
 struct_ok : (start : Place) (tag : List ℕ) (members : List Decl) → T (stands start) → T (is_name tag) → T (not (is_empty members)) → T (list_all formed_decl members) → T (list_all formed_item (made.struct_item start tag members))
 struct_ok start tag members s t m f = and2 (and2 s (and3 t m f)) refl
@@ -399,27 +407,27 @@ keeps n.External = (
   λ p sp mp t x f i g j q sq mq. globals_ok p.place true t f g sp.place x i j,
   (
     λ p sp mp q sq mq f x. x p.place q.text sp.place (sq.named mq),
-    λ t x stars u q sq mq f y. y t.start t.base stars (made.named_of q) x.0 x.1 (name_of q sq mq),
+    λ t x stars u q sq mq f y. y t.start t.base stars (made.named_of q) x.0 x.1 (few stars u) (name_of q sq mq),
   ),
 )
 keeps n.AfterTag = (
   λ p sp mp a x c y q sq mq r sr mr start tag ss st. struct_ok start tag (a ++ c) ss st (some_left a c x.1) (append_ok formed_decl a c x.0 y),
-  λ stars u q sq mq f y start tag ss st. y start (b.Struct tag) stars (made.named_of q) ss st (name_of q sq mq),
+  λ stars u q sq mq f y start tag ss st. y start (b.Struct tag) stars (made.named_of q) ss st (few stars u) (name_of q sq mq),
 )
 keeps n.AfterName = (
-  λ p sp mp a x q sq mq body y start base stars name ss sb sn. function_ok start base stars name a body ss sb sn x y,
-  λ a x i y more z q sq mq start base stars name ss sb sn. globals_ok start false (made.typed_at start base) (made.initialised start stars name a i) more ss (ss, sb) (record { start = ss; name = sn.1; counts = x }, y) z,
+  λ p sp mp a x q sq mq body y start base stars name ss sb sf sn. function_ok start base stars name a body ss sb sf sn x y,
+  λ a x i y more z q sq mq start base stars name ss sb sf sn. globals_ok start false (made.typed_at start base) (made.initialised start stars name a i) more ss (ss, sb) (record { start = ss; stars = sf; name = sn.1; counts = x }, y) z,
 )
 keeps n.Ending = (λ p sp mp. refl, λ v x. x.0)
 keeps n.Parameters = (
   λ p sp mp f x. x p.place sp.place,
-  λ t x stars u q sq mq more y. and2 (parameter_ok t.start t.base stars (made.named_of q) x.0 x.1 (name_of q sq mq)) y,
+  λ t x stars u q sq mq more y. and2 (parameter_ok t.start t.base stars (made.named_of q) x.0 x.1 (few stars u) (name_of q sq mq)) y,
 )
 keeps n.AfterVoid = (
-  λ stars u q sq mq more y start ss. and2 (parameter_ok start b.Void stars (made.named_of q) ss refl (name_of q sq mq)) y,
+  λ stars u q sq mq more y start ss. and2 (parameter_ok start b.Void stars (made.named_of q) ss refl (few stars u) (name_of q sq mq)) y,
   λ start ss. refl,
 )
-keeps n.Parameter = λ t x stars u q sq mq. parameter_ok t.start t.base stars (made.named_of q) x.0 x.1 (name_of q sq mq)
+keeps n.Parameter = λ t x stars u q sq mq. parameter_ok t.start t.base stars (made.named_of q) x.0 x.1 (few stars u) (name_of q sq mq)
 keeps n.MoreParameters = (λ p sp mp d x more y. and2 x y, refl)
 keeps n.Width = λ p sp mp. sp.place
 keeps n.MaybeWidth = (λ v x. tt, tt)
@@ -427,14 +435,14 @@ keeps n.Integer = (λ p sp mp v x. sp.place, (λ p sp mp v x. sp.place, λ v x. 
 keeps n.PlainBase = (λ p sp mp. (sp.place, refl), λ v x. (x, refl))
 keeps n.ObjectBase = (λ p sp mp q sq mq. (sp.place, sq.named mq), λ v x. (x, refl))
 keeps n.AnyBase = (λ p sp mp. (sp.place, refl), λ v x. x)
-keeps n.TypeName = λ t x stars u. x.1
-keeps (n.Stars zero) = tt
-keeps (n.Stars (suc most)) = (λ p sp mp v x. tt, tt)
+keeps n.TypeName = λ t x stars u. (x.1, few stars u)
+keeps (n.Stars zero) = omega arith
+keeps (n.Stars (suc most)) = (λ p sp mp v x. omega (arith, x), omega arith)
 keeps n.Member = λ t x d y more z q sq mq. (decls_ok t d more x y z, refl)
 keeps n.Members = (λ a x c y. append_ok formed_decl a c x.0 y, refl)
 keeps n.Declared = (
-  λ p sp mp stars u q sq mq a x. record { start = sp.place; name = sq.named mq; counts = x },
-  λ q sq mq a x. record { start = sq.place; name = sq.named mq; counts = x },
+  λ p sp mp stars u q sq mq a x. record { start = sp.place; stars = few (stars + 1) (omega (arith, u)); name = sq.named mq; counts = x },
+  λ q sq mq a x. record { start = sq.place; stars = refl; name = sq.named mq; counts = x },
 )
 keeps n.MoreDeclared = (λ p sp mp d x more y. All-cons Declares d more x y, All-nil Declares)
 keeps n.Counts = (λ p sp mp a x q sq mq more y. and2 x.1 y, refl)

@@ -1,13 +1,11 @@
-//! Tests of the crates about C: tokens (`c_tokens`), trees (`c_tree`), types (`c_types`), members (`narrowing`), places of variables
-//! (`place_plan`), fat steps (`fat_ir`). They stand apart, since a crate with tests is proved twice.
+//! Tests of the crates about C: tokens (`c_tokens`), trees (`c_tree`), types (`c_types`), members (`narrowing`),
+//! fat steps (`fat_ir`). They stand apart, since a crate with tests is proved twice.
 #![tactic(auto)]
 
 #[cfg(test)]
 mod fat_programs;
 #[cfg(test)]
 mod members;
-#[cfg(test)]
-mod places;
 #[cfg(test)]
 mod tokens;
 #[cfg(test)]

@@ -1,1 +1,4 @@
+pub mod FewStars
 pub mod FormedLists
+pub mod Inductions
+pub mod Laid

@@ -1,5 +1,5 @@
 -- Which trees are formed: each node has the parts that the grammar gives it. Every number of an operator is a place in its list, every name is a
--- name of the language, every number is the word of its type, and every line and column is at least 1.
+-- name of the language, every number is the word of its type, every type has at most 255 stars, and every line and column is at least 1.
 use Rattle.std.specs.Prelude.{◌≡◌, ℕ, Bool, true, false, ◌&&◌, ◌==◌, not, nat_le, nat_lt, List, [], ◌∷◌, Option, Some, None}
 use Rattle.std.specs.List.{list_all}
 use Rattle.mx_base.specs.declared.places.Place.{Place}
@@ -69,6 +69,10 @@ abbrev pub is_compound : Option ℕ → Bool
 is_compound None = true
 is_compound (Some op) = nat_le 1 op && nat_le op 10
 
+-- a type that is written has at most 255 stars: in a declaration, a cast or a `sizeof`
+abbrev pub few_stars : ℕ → Bool
+few_stars stars = nat_le stars 255
+
 abbrev pub formed_base : Base → Bool
 formed_base b.Void = true
 formed_base (b.Int kind) = true
@@ -89,8 +93,8 @@ expr_step (e.Call name all) = is_name name && every all
 expr_step (e.Index a c) = a && c
 expr_step (e.Member a name) = a && is_name name
 expr_step (e.Arrow a name) = a && is_name name
-expr_step (e.Cast base stars a) = formed_base base && a
-expr_step (e.SizeOfKind base stars) = formed_base base
+expr_step (e.Cast base stars a) = formed_base base && few_stars stars && a
+expr_step (e.SizeOfKind base stars) = formed_base base && few_stars stars
 expr_step (e.SizeOfValue a) = a
 
 abbrev pub formed_expr : Expr → Bool
@@ -103,7 +107,7 @@ maybe_expr (Some x) = formed_expr x
 -- ---- declarations and initialisers
 
 abbrev pub formed_decl : Decl → Bool
-formed_decl d = stands d.place && formed_base d.base && is_name d.name && list_all formed_expr d.counts
+formed_decl d = stands d.place && formed_base d.base && few_stars d.stars && is_name d.name && list_all formed_expr d.counts
 
 -- a list in braces has a part at least
 abbrev pub init_step : InitKind-F Bool Bool → Bool

@@ -1,3 +1,4 @@
 pub mod Count
 pub mod Formed
 pub mod Names
+pub mod Stars

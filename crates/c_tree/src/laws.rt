@@ -6,6 +6,7 @@ ghost use Rattle.std.specs.List.{list_all};
 ghost use Rattle.mx_base.specs.declared.places.Place.{Place};
 ghost use Rattle.mx_base.specs.declared.numbers.IntKind.{IntKind};
 ghost use Rattle.c_tree.specs.declared.tree.Base.{Base};
+ghost use Rattle.c_tree.specs.declared.tree.Base.TheVariants.{Void};
 ghost use Rattle.c_tree.specs.declared.tree.Expr.{Expr};
 ghost use Rattle.c_tree.specs.declared.tree.ExprKind.TheVariants as v;
 ghost use Rattle.c_tree.specs.declared.tree.InitKind.TheVariants as i;
@@ -28,12 +29,12 @@ pub fn operators_are_of_their_lists()
     ensures compound { (place : Place) (op : ℕ) (a b : Expr) → formed_expr (record { place = place; kind = v.Assign (Some op) a b }) ≡ (stands place && ((nat_le 1 op && nat_le op 10) && formed_expr a && formed_expr b)) }
 {}
 
-/// A name of a formed tree is a name of the language, and a number is the word of its type.
+/// A name of a formed tree is a name of the language, a number is the word of its type, and a cast has at most 255 stars.
 pub fn names_and_numbers_are_of_the_language()
     ensures variable { (place : Place) (name : List ℕ) → formed_expr (record { place = place; kind = v.Var name }) ≡ (stands place && is_name name) }
     ensures number { (place : Place) (n : ℕ) (kind : IntKind) → formed_expr (record { place = place; kind = v.Number n kind }) ≡ (stands place && is_number n kind) }
     ensures member { (place : Place) (a : Expr) (name : List ℕ) → formed_expr (record { place = place; kind = v.Member a name }) ≡ (stands place && (formed_expr a && is_name name)) }
-    ensures cast { (place : Place) (base : Base) (stars : ℕ) (a : Expr) → formed_expr (record { place = place; kind = v.Cast base stars a }) ≡ (stands place && (formed_base base && formed_expr a)) }
+    ensures cast { (place : Place) (base : Base) (stars : ℕ) (a : Expr) → formed_expr (record { place = place; kind = v.Cast base stars a }) ≡ (stands place && (formed_base base && nat_le stars 255 && formed_expr a)) }
 {}
 
 /// An empty name, a name of 64 bytes and a reserved word are no names; a name of 63 bytes is one.
@@ -73,8 +74,14 @@ pub fn expressions_have_formed_parts()
     ensures call { (place : Place) (name : List ℕ) (all : List Expr) → formed_expr (record { place = place; kind = v.Call name all }) ≡ (stands place && (is_name name && list_all formed_expr all)) }
     ensures index { (place : Place) (a b : Expr) → formed_expr (record { place = place; kind = v.Index a b }) ≡ (stands place && (formed_expr a && formed_expr b)) }
     ensures arrow { (place : Place) (a : Expr) (name : List ℕ) → formed_expr (record { place = place; kind = v.Arrow a name }) ≡ (stands place && (formed_expr a && is_name name)) }
-    ensures size_of_kind { (place : Place) (base : Base) (stars : ℕ) → formed_expr (record { place = place; kind = v.SizeOfKind base stars }) ≡ (stands place && formed_base base) }
+    ensures size_of_kind { (place : Place) (base : Base) (stars : ℕ) → formed_expr (record { place = place; kind = v.SizeOfKind base stars }) ≡ (stands place && (formed_base base && nat_le stars 255)) }
     ensures size_of_value { (place : Place) (a : Expr) → formed_expr (record { place = place; kind = v.SizeOfValue a }) ≡ (stands place && formed_expr a) }
+{}
+
+/// A declaration has formed parts and at most 255 stars, as the types of casts and `sizeof` have.
+pub fn declarations_have_formed_parts()
+    ensures parts { (place : Place) (base : Base) (stars : ℕ) (name : List ℕ) (counts : List Expr) → formed_decl (record { place = place; base = base; stars = stars; name = name; counts = counts }) ≡ (stands place && formed_base base && nat_le stars 255 && is_name name && list_all formed_expr counts) }
+    ensures stars { (place : Place) → (formed_expr (record { place = place; kind = v.SizeOfKind Void 255 }) ≡ (stands place && true)) × (formed_expr (record { place = place; kind = v.SizeOfKind Void 256 }) ≡ false) }
 {}
 
 /// Each initialiser in braces has parts, all of them formed.

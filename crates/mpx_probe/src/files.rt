@@ -1,5 +1,9 @@
 //! Sources in files.
-use c_check::read_source;
+
+ghost use Rattle.std.specs.Prelude.{IfOk};
+ghost use Rattle.c_tree.specs.Formed.{IsFormed};
+
+use c_check::check;
 use c_reader::read;
 use c_tokens::tokens;
 use c_tree::{Tree, nodes};
@@ -23,7 +27,9 @@ pub fn tokens_line<R: Files + Alloc<A = Global>>(rt: &R, path: &str) -> io::Resu
 }
 
 /// The tree of the program in a file, or the line that tells its first fault with its place.
-fn tree_in<R: Files + Alloc<A = Global>>(rt: &R, path: &str) -> io::Result<Result<Tree, String>> {
+fn tree_in<R: Files + Alloc<A = Global>>(rt: &R, path: &str) -> io::Result<Result<Tree, String>>
+    ensures { IfOk result (λ told. IfOk told IsFormed) }
+{
     let bytes = fs::read(rt, path)?;
     if bytes.len() > 536_870_912 {
         return Ok(Err(String::from_str(rt.alloc(), "FileLarge")?));
@@ -54,8 +60,27 @@ pub fn check_line<R: Files + Alloc<A = Global>>(rt: &R, path: &str) -> io::Resul
         Ok(tree) => tree,
         Err(line) => return Ok(line),
     };
-    match read_source(rt.alloc(), &tree, 32_768) {
-        Ok(_known) => Ok(String::from_str(rt.alloc(), "accepted")?),
+    match check(rt.alloc(), &tree, 32_768) {
+        Ok(_checked) => Ok(String::from_str(rt.alloc(), "accepted")?),
         Err(fault) => Ok(format!(in rt.alloc(); "{fault}")?),
     }
+}
+
+/// How often the source in a file is accepted in so many checks, or the line that tells the first fault of its reading.
+pub fn check_often<R: Files + Alloc<A = Global>>(
+    rt: &R,
+    path: &str,
+    times: u32,
+) -> io::Result<String> {
+    let tree = match tree_in(rt, path)? {
+        Ok(tree) => tree,
+        Err(line) => return Ok(line),
+    };
+    let mut accepted = 0u32;
+    for _ in 0..times {
+        if check(rt.alloc(), &tree, 32_768).is_ok() {
+            accepted = accepted.saturating_add(1);
+        }
+    }
+    Ok(format!(in rt.alloc(); "accepted {accepted}")?)
 }

@@ -8,7 +8,8 @@
 //! branch makes of the bounds registers: its states have the bounds registers and three windows of memory (`src/mpx.rt`).
 //! `layout` reads lines of structs and prints their sizes, alignments and the offsets of their members (`src/layout.rt`).
 //! `tokens FILE` prints the number of the file's tokens, `read FILE` `nodes N`, the number of its tree's nodes, and `check FILE`
-//! `accepted`; or each the first refusal, `KIND LINE:COL`. `speed CALL N` does so many calls and prints how many were done: `decode`,
+//! `accepted`; or each the first refusal, `KIND LINE:COL`. `check FILE --times N` reads the file once, checks it so many times, and
+//! prints `accepted M`, how often it was accepted. `speed CALL N` does so many calls and prints how many were done: `decode`,
 //! `encode`; loads and stores of memory within a page (`load-one`, `store-one`) and over 10,000 pages (`load-many`, `store-many`); a
 //! free and an alloc among 65,536 live blocks (`heap`), and an alloc and a free behind 32,767 small free ranges (`heap-gaps`).
 //! `speed touch N` touches so many pages and prints how many frames are in use.
@@ -22,7 +23,7 @@ mod mpx;
 mod speed;
 mod step;
 
-use files::{check_line, read_line, tokens_line};
+use files::{check_line, check_often, read_line, tokens_line};
 use instructions::{decode_line, recode_line};
 use layout::layout_line;
 use memory::{gaps_often, heap_often, load_often, store_often, touch_pages};
@@ -41,6 +42,13 @@ fn main(rt: HostRuntime) -> io::Result<ExitCode> {
         [command] => each_line(&rt, command.as_str())?,
         [command, path] => of_file(&rt, command.as_str(), path.as_str())?,
         [command, call, count] => repeat(&rt, command.as_str(), call.as_str(), count.as_str())?,
+        [command, path, option, count] => of_file_often(
+            &rt,
+            command.as_str(),
+            path.as_str(),
+            option.as_str(),
+            count.as_str(),
+        )?,
         _ => false,
     };
     Ok(ExitCode::from(if done { 0 } else { 2 }))
@@ -94,6 +102,29 @@ fn of_file<R: Files + Print + Alloc<A = Global>>(
         "tokens" => tokens_line(rt, path)?,
         "read" => read_line(rt, path)?,
         "check" => check_line(rt, path)?,
+        _ => return Ok(false),
+    };
+    println!(rt; "{line}")?;
+    Ok(true)
+}
+
+/// Does a command on a file so many times, and says whether there is such a command.
+fn of_file_often<R: Files + Print + Alloc<A = Global>>(
+    rt: &R,
+    command: &str,
+    path: &str,
+    option: &str,
+    count: &str,
+) -> io::Result<bool> {
+    let times = match count.parse::<u32>() {
+        Ok(times) => times,
+        Err(_) => return Ok(false),
+    };
+    if option != "--times" {
+        return Ok(false);
+    }
+    let line = match command {
+        "check" => check_often(rt, path, times)?,
         _ => return Ok(false),
     };
     println!(rt; "{line}")?;

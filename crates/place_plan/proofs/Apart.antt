@@ -6,7 +6,7 @@ use Rattle.c_types.specs.declared.layout.Layout.{Layout}
 use Rattle.c_types.specs.Types.{CType, StructType}
 use Rattle.c_types.specs.Layouts.{next_multiple, layout_of}
 use Rattle.place_plan.specs.declared.frames.Free.{Free}
-use Rattle.place_plan.specs.declared.plan.Spot.TheVariants.{Private, Frame}
+use Rattle.place_plan.specs.declared.plans.Spot.TheVariants.{Private, Frame}
 use Rattle.place_plan.specs.Frames.{Variable, values_of, spot_at, free_after, spots_from, free_after_all}
 use Rattle.place_plan.proofs.Ends.{next_enough, after_grows, ends_grow}
 

@@ -1,11 +1,10 @@
--- The globals that a source defines stand at multiples of their alignments, none over another, and its literals behind them.
-use Rattle.std.proofs.Common.{◌≡◌, ℕ, zero, suc, ◌+◌, ◌%◌, ◌≤◌, ◌<◌, Bool, true, false, List, [], ◌∷◌, subst, arith}
-use Rattle.std.specs.Prelude.{Some, slice_get, sum}
-use Rattle.std.proofs.lemmas.List.Sums.{sum_by-cons}
+-- The globals that a source defines stand at multiples of their alignments, none over another.
+use Rattle.std.proofs.Common.{◌≡◌, ℕ, zero, suc, ◌+◌, ◌≤◌, ◌<◌, Bool, true, false, List, [], ◌∷◌, subst, arith}
+use Rattle.std.specs.Prelude.{Some, slice_get}
 use Rattle.c_types.specs.declared.layout.Layout.{Layout}
 use Rattle.c_types.specs.Types.{CType, StructType}
 use Rattle.c_types.specs.Layouts.{next_multiple, layout_of}
-use Rattle.place_plan.specs.Data.{Global, offset_at, end_after, offsets_from, globals_end, literals_from}
+use Rattle.place_plan.specs.Data.{Global, offset_at, end_after, offsets_from, globals_end}
 use Rattle.place_plan.proofs.Apart.{Stands, next_is_multiple}
 use Rattle.place_plan.proofs.Ends.{next_enough, end_grows, data_grows}
 
@@ -35,22 +34,3 @@ module _ (structs : List StructType) (some : (type : CType) → 1 ≤ (layout_of
       let s = head_stands x.defined (layout_of structs x.type) free o (some x.type) c f in let t = stands (after free x) xs j p h b e n in
       subst (λ u. o + (layout_of structs u.type).size ≤ p) q (omega (arith, s.below, t.above))
   apart free (x ∷ xs) (suc i) (suc j) o p g h lt a b d e m n = apart (after free x) xs i j o p g h (omega arith) a b d e m n
-
--- ---- literals
-
-pub literal_above : (free : ℕ) (sizes : List ℕ) (i o : ℕ) → slice_get (literals_from free sizes) i ≡ Some o → free ≤ o
-literal_above free [] i o h = cc
-literal_above free (n ∷ ns) zero o h = let e : free ≡ o = cc in omega arith
-literal_above free (n ∷ ns) (suc i) o h = omega (arith, literal_above (free + n) ns i o h)
-
-pub literal_within : (free : ℕ) (sizes : List ℕ) (i o n : ℕ) → slice_get sizes i ≡ Some n → slice_get (literals_from free sizes) i ≡ Some o → o + n ≤ free + sum sizes
-literal_within free [] i o n h k = cc
-literal_within free (m ∷ ms) zero o n h k = let e : free ≡ o = cc in let f : m ≡ n = cc in omega (arith, sum_by-cons (λ (x : ℕ). x) m ms)
-literal_within free (m ∷ ms) (suc i) o n h k = omega (arith, sum_by-cons (λ (x : ℕ). x) m ms, literal_within (free + m) ms i o n h k)
-
-pub literals_apart : (free : ℕ) (sizes : List ℕ) (i j o p n : ℕ) → i < j → slice_get sizes i ≡ Some n → slice_get (literals_from free sizes) i ≡ Some o
-    → slice_get (literals_from free sizes) j ≡ Some p → o + n ≤ p
-literals_apart free [] i j o p n lt h k l = cc
-literals_apart free (m ∷ ms) i zero o p n lt h k l = omega arith
-literals_apart free (m ∷ ms) zero (suc j) o p n lt h k l = let e : free ≡ o = cc in let f : m ≡ n = cc in omega (arith, literal_above (free + m) ms j p l)
-literals_apart free (m ∷ ms) (suc i) (suc j) o p n lt h k l = literals_apart (free + m) ms i j o p n (omega arith) h k l

@@ -1,5 +1,5 @@
--- Where the data of a source stands: its defined globals in order of declaration, each at the next multiple of its alignment, and then its text
--- literals in order of appearance, each with its byte 0.
+-- Where the globals of a source stand that it defines: in order of declaration, each at the next multiple of its alignment. Its text literals stand
+-- behind them.
 use Rattle.std.specs.Prelude.{ℕ, ◌+◌, Bool, true, false, List, [], ◌∷◌}
 use Rattle.c_types.specs.declared.layout.Layout.{Layout}
 use Rattle.c_types.specs.Types.{CType, StructType}
@@ -30,8 +30,3 @@ offsets_from structs free (g ∷ more) = offset_at g.defined (layout_of structs 
 abbrev pub globals_end : List StructType → (free : ℕ) → List Global → ℕ
 globals_end structs free [] = free
 globals_end structs free (g ∷ more) = globals_end structs (end_after g.defined (layout_of structs g.type) free) more
-
--- where literals of these sizes stand, from a byte on
-abbrev pub literals_from : (free : ℕ) → (sizes : List ℕ) → List ℕ
-literals_from free [] = []
-literals_from free (n ∷ more) = free ∷ literals_from (free + n) more

@@ -4,9 +4,9 @@ use Rattle.std.specs.Prelude.{ℕ, zero, suc, ◌+◌, Bool, true, false, List, 
 use Rattle.c_types.specs.declared.layout.Layout.{Layout}
 use Rattle.c_types.specs.Types.{CType, Void, Int, Pointer, Array, Struct, StructType}
 use Rattle.c_types.specs.Layouts.{next_multiple, layout_of}
-use Rattle.place_plan.specs.declared.plan.Spot.{Spot}
-use Rattle.place_plan.specs.declared.plan.Spot.TheVariants.{Private, Frame}
-use Rattle.place_plan.specs.declared.plan.FramePlan.{FramePlan}
+use Rattle.place_plan.specs.declared.plans.Spot.{Spot}
+use Rattle.place_plan.specs.declared.plans.Spot.TheVariants.{Private, Frame}
+use Rattle.place_plan.specs.declared.plans.FramePlan.{FramePlan}
 use Rattle.place_plan.specs.declared.frames.Free.{Free}
 
 -- a parameter or local: its type, and whether `&` is applied to it

@@ -1,7 +1,7 @@
 -- Globals by the numbers of their types in a table.
 use Rattle.std.specs.Prelude.{List, map}
 use Rattle.c_types.specs.Types.{Types, type_at, IsIn, HasSize}
-use Rattle.place_plan.specs.declared.data.GlobalVariable.{GlobalVariable}
+use Rattle.c_check.specs.declared.checked.GlobalVariable.{GlobalVariable}
 use Rattle.place_plan.specs.Data.{Global}
 
 abbrev pub global_of : Types → GlobalVariable → Global

@@ -2,3 +2,9 @@ pub mod Frames
 pub mod Data
 pub mod Locals
 pub mod Globals
+pub mod Initialisers
+pub mod Members
+pub mod Image
+pub mod Laying
+pub mod Plans
+pub mod Source

@@ -7,18 +7,12 @@ ghost use Rattle.c_types.specs.Layouts.{next_multiple, layout_at};
 ghost use Rattle.place_plan.specs.Frames.{scalar_values, values_of, spot_at, free_after, frame_plan};
 ghost use Rattle.place_plan.specs.Locals.{variables_of, CanBePlaced};
 
-use crate::plan::{FramePlan, Spot};
-use c_types::{Shape, TypeId, TypeTable, sizes_are_multiples};
+use crate::plans::{FramePlan, Spot};
+use c_check::LocalVariable;
+use c_types::{Shape, TypeTable, sizes_are_multiples};
 use mx_base::OutOfMemory;
 use sqlite_items::Items;
 use std::alloc::Global;
-
-/// A parameter or local: its type, and whether `&` is applied to it.
-#[derive(Clone, Copy, Debug)]
-pub struct Local {
-    pub kind: TypeId,
-    pub taken: bool,
-}
 
 /// The next private value and the next byte of the frame that are free.
 #[derive(Clone, Copy, Debug)]
@@ -51,7 +45,7 @@ fn scalar_values_of(shape: Shape) -> u64
 }
 
 /// The private values of a parameter or local: one to which `&` is applied has none.
-fn private_values(table: &TypeTable, local: Local) -> u64
+fn private_values(table: &TypeTable, local: LocalVariable) -> u64
     requires { CanBePlaced table.now local }
     ensures value { result ≡ values_of local.taken (type_at table.now local.kind) }
     ensures few { result ≤ 2 }
@@ -64,9 +58,9 @@ fn private_values(table: &TypeTable, local: Local) -> u64
 }
 
 /// Where a parameter or local stands, and what is free after it.
-fn place_local(table: &TypeTable, local: Local, free: Free) -> (Spot, Free)
+fn place_local(table: &TypeTable, local: LocalVariable, free: Free) -> (Spot, Free)
     requires known { CanBePlaced table.now local }
-    requires value { free.value ≤ 65536 }
+    requires value { free.value ≤ 196608 }
     requires byte { (free_after (values_of local.taken (type_at table.now local.kind)) (layout_at table.now local.kind) free).byte ≤ 1048576 }
     requires before { free.byte ≤ 1048576 }
     ensures spot { result.0 ≡ spot_at (values_of local.taken (type_at table.now local.kind)) (layout_at table.now local.kind) free }
@@ -91,14 +85,14 @@ fn place_local(table: &TypeTable, local: Local, free: Free) -> (Spot, Free)
 
 /// The data frame of a function whose parameters and locals, in order of declaration, are these: a scalar to which no `&` is
 /// applied is private, the others stand in order from the frame's lowest address, each at the next multiple of its alignment.
-/// They are 32,768 at most, and the frame has at most 1,048,576 bytes.
+/// They are 98,304 at most, and the frame has at most 1,048,576 bytes.
 pub fn place_locals(
     alloc: Global,
     table: &TypeTable,
-    locals: &[Local],
+    locals: &[LocalVariable],
 ) -> Result<FramePlan, OutOfMemory>
     requires known { All (CanBePlaced table.now) locals.now }
-    requires few { length locals.now ≤ 32768 }
+    requires few { length locals.now ≤ 98304 }
     requires small { (frame_plan (structs_of table.now) (variables_of table.now locals.now)).size ≤ 1048576 }
     ensures { IfOk result (λ plan. plan ≡ frame_plan (structs_of table.now) (variables_of table.now locals.now)) }
 {

@@ -2,7 +2,7 @@ use Rattle.c_check_expressions.proofs.Order.{text_order, name_order, unary_order
 use Rattle.c_check_expressions.proofs.laws.rules_of_a_node_are_in_order.Goals as goal
 
 pub returns-clause-text : goal.returns-clause-text
-returns-clause-text c = λ n. text_order n
+returns-clause-text c = λ bytes. text_order bytes
 
 pub returns-clause-name : goal.returns-clause-name
 returns-clause-name c = λ functions found. name_order functions found

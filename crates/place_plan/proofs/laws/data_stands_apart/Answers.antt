@@ -1,4 +1,4 @@
-use Rattle.place_plan.proofs.DataApart.{stands, apart, literal_above, literal_within, literals_apart}
+use Rattle.place_plan.proofs.DataApart.{stands, apart}
 use Rattle.place_plan.proofs.laws.data_stands_apart.Goals as goal
 
 pub returns-clause-aligned : goal.returns-clause-aligned
@@ -9,12 +9,3 @@ returns-clause-within c = λ structs gs i o g h d k. (stands structs (c.sizes_ar
 
 pub returns-clause-apart : goal.returns-clause-apart
 returns-clause-apart c = λ structs gs i j o p g h lt a b d e m n. apart structs (c.sizes_are_multiples.ensures.some structs) 0 gs i j o p g h lt a b d e m n
-
-pub returns-clause-behind : goal.returns-clause-behind
-returns-clause-behind c = literal_above
-
-pub returns-clause-literals_within : goal.returns-clause-literals_within
-returns-clause-literals_within c = literal_within
-
-pub returns-clause-literals_apart : goal.returns-clause-literals_apart
-returns-clause-literals_apart c = literals_apart
