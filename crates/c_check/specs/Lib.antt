@@ -5,3 +5,5 @@ pub mod Numbering
 pub mod NodeRules
 pub mod Nodes
 pub mod Standing
+pub mod Symbols
+pub mod SmallSources

@@ -2,7 +2,7 @@
 
 ghost use Rattle.mx_base.specs.declared.places.Place.{Place};
 ghost use Rattle.c_tree.specs.declared.tree.Tree.{Tree};
-ghost use Rattle.std.specs.Prelude.{◌≡◌, ◌↔◌, ◌⊎◌, ◌≤◌, ◌++◌, ℕ, Bool, true, false, List, [], ◌∷◌, Option, None, Some, Contains, flat_map, map, option_map, length};
+ghost use Rattle.std.specs.Prelude.{◌≡◌, ◌↔◌, ◌⊎◌, ◌≤◌, ◌++◌, ℕ, Bool, true, false, List, [], ◌∷◌, Option, None, Some, Contains, flat_map, map, option_map, length, codes};
 ghost use Rattle.c_tree.specs.declared.tree.ItemKind.TheVariants as k;
 ghost use Rattle.c_tree.specs.declared.tree.Decl.{Decl};
 ghost use Rattle.c_tree.specs.declared.tree.Expr.{Expr};
@@ -31,7 +31,9 @@ ghost use Rattle.c_check.specs.Accepted.{broken, IsAccepted, after, is_too_large
 ghost use Rattle.c_check.specs.Nodes.{Role, Node, place_of, declared_as, parts_of, Listed, item_nodes};
 ghost use Rattle.c_check.specs.NodeRules.{decl_rules, rules_of, broken_in, InTreeOrder, NodeBreaks, SourceBreaks, BreaksNoRule, NoneBreaks, FirstBreaks};
 ghost use Rattle.c_check.specs.Rooms.{HaveRoom};
+ghost use Rattle.c_check.specs.SmallSources.{calls_own, long_name, names_long, passes_text, uses_one};
 ghost use Rattle.c_check.specs.Standing.{structs_seen, AreLaid, CanBeNumbered};
+ghost use Rattle.c_check.specs.Symbols.{Defined, Imported, entry, stands_in, symbols};
 
 /// A statement breaks what its parts break, in order, and then its own rules: what each form is beside its parts is said by a rule of its own.
 pub fn statements_are_walked_by_their_parts()
@@ -122,4 +124,15 @@ pub fn first_broken_rule_is_of_the_first_node()
 /// Where one node breaks several rules, they are listed in the order of their kinds, and each once.
 pub fn rules_of_each_node_are_in_order()
     ensures { (node : Node) → InOrder (rules_of node) }
+{}
+
+/// The symbols of four small sources: what they define, what they take from elsewhere and use outside `sizeof`, and their text literals. They are
+/// accepted, and where their names stand is as long a list as what they are bound to.
+pub fn small_sources_have_these_symbols()
+    ensures one_import { symbols uses_one ≡ entry Imported (codes "a") (codes "d4") ∷ entry Defined (codes "c") (codes "d4") ∷ entry Defined (codes "main") (codes "fi()") ∷ [] }
+    ensures text { symbols passes_text ≡ entry Defined (codes "c") (codes "d4") ∷ entry Imported (codes "f") (codes "fi(p)") ∷ entry Defined (codes "main") (codes "fi()") ∷ entry Defined (codes "__text_main") (codes "d3") ∷ [] }
+    ensures no_import { symbols calls_own ≡ entry Defined (codes "f") (codes "fi(p)") ∷ entry Defined (codes "main") (codes "fi()") ∷ [] }
+    ensures long { symbols names_long ≡ entry Defined long_name (codes "fi()") ∷ entry Defined (codes "__text_a123456789a123456789a123456789a123456789a123456789a12345") (codes "d2") ∷ [] }
+    ensures accepted { IsAccepted uses_one 18 × IsAccepted passes_text 18 × IsAccepted calls_own 18 × IsAccepted names_long 18 }
+    ensures along { (length (stands_in uses_one) ≡ length (after uses_one).notes.binds) × (length (stands_in passes_text) ≡ length (after passes_text).notes.binds) × (length (stands_in calls_own) ≡ length (after calls_own).notes.binds) × (length (stands_in names_long) ≡ length (after names_long).notes.binds) }
 {}

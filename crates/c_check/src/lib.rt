@@ -12,7 +12,7 @@ pub use laws::{
     broken_rules_are_in_tree_order, broken_rules_are_those_of_nodes,
     checked_sizes_are_those_of_types, first_broken_rule_is_of_the_first_node,
     initialisers_are_walked_by_their_parts, items_are_walked_by_their_parts,
-    parts_of_a_node_come_first, rules_of_each_node_are_in_order,
+    parts_of_a_node_come_first, rules_of_each_node_are_in_order, small_sources_have_these_symbols,
     statements_are_walked_by_their_parts, walks_break_rules_in_order,
 };
 pub use source::{check, read_source};

@@ -7,6 +7,7 @@ use c_check::check;
 use c_reader::read;
 use c_tokens::tokens;
 use c_tree::{Tree, nodes};
+use place_plan::plan;
 use std::alloc::Global;
 use std::rt::Files;
 use std::{fs, io};
@@ -83,4 +84,27 @@ pub fn check_often<R: Files + Alloc<A = Global>>(
         }
     }
     Ok(format!(in rt.alloc(); "accepted {accepted}")?)
+}
+
+/// How often the source in a file, once it is checked, is planned in so many calls, or the line that tells its first fault.
+pub fn plan_often<R: Files + Alloc<A = Global>>(
+    rt: &R,
+    path: &str,
+    times: u32,
+) -> io::Result<String> {
+    let tree = match tree_in(rt, path)? {
+        Ok(tree) => tree,
+        Err(line) => return Ok(line),
+    };
+    let checked = match check(rt.alloc(), &tree, 32_768) {
+        Ok(checked) => checked,
+        Err(fault) => return Ok(format!(in rt.alloc(); "{fault}")?),
+    };
+    let mut planned = 0u32;
+    for _ in 0..times {
+        if plan(rt.alloc(), &tree, &checked).is_ok() {
+            planned = planned.saturating_add(1);
+        }
+    }
+    Ok(format!(in rt.alloc(); "planned {planned}")?)
 }

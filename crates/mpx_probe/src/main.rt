@@ -9,10 +9,11 @@
 //! `layout` reads lines of structs and prints their sizes, alignments and the offsets of their members (`src/layout.rt`).
 //! `tokens FILE` prints the number of the file's tokens, `read FILE` `nodes N`, the number of its tree's nodes, and `check FILE`
 //! `accepted`; or each the first refusal, `KIND LINE:COL`. `check FILE --times N` reads the file once, checks it so many times, and
-//! prints `accepted M`, how often it was accepted. `speed CALL N` does so many calls and prints how many were done: `decode`,
-//! `encode`; loads and stores of memory within a page (`load-one`, `store-one`) and over 10,000 pages (`load-many`, `store-many`); a
-//! free and an alloc among 65,536 live blocks (`heap`), and an alloc and a free behind 32,767 small free ranges (`heap-gaps`).
-//! `speed touch N` touches so many pages and prints how many frames are in use.
+//! prints `accepted M`, how often it was accepted; `plan FILE --times N` checks it once, plans it so many times, and prints
+//! `planned M`. `speed CALL N` does so many calls and prints how many were done: `decode`, `encode`; loads and stores of memory
+//! within a page (`load-one`, `store-one`) and over 10,000 pages (`load-many`, `store-many`); a free and an alloc among 65,536 live
+//! blocks (`heap`), and an alloc and a free behind 32,767 small free ranges (`heap-gaps`). `speed touch N` touches so many pages
+//! and prints how many frames are in use.
 #![tactic(auto)]
 
 mod files;
@@ -23,7 +24,7 @@ mod mpx;
 mod speed;
 mod step;
 
-use files::{check_line, check_often, read_line, tokens_line};
+use files::{check_line, check_often, plan_often, read_line, tokens_line};
 use instructions::{decode_line, recode_line};
 use layout::layout_line;
 use memory::{gaps_often, heap_often, load_often, store_often, touch_pages};
@@ -125,6 +126,7 @@ fn of_file_often<R: Files + Print + Alloc<A = Global>>(
     }
     let line = match command {
         "check" => check_often(rt, path, times)?,
+        "plan" => plan_often(rt, path, times)?,
         _ => return Ok(false),
     };
     println!(rt; "{line}")?;
