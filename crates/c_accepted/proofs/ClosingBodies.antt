@@ -48,7 +48,7 @@ module _ (S : ℕ → ℕ → ℕ → Type 0) (F : ℕ → ℕ → Type 0) (P : 
   member_zeros_name structs place (t ∷ ts) (o ∷ os) l offset h = append_names (zeros structs place t l (offset + o)) (member_zeros structs place ts os l offset)
       (zeros_name (map (scalar_at (offset + o)) (scalars_of structs t)) place l h) (member_zeros_name structs place ts os l offset h)
 
-  text_names : (place : Place) (kind : IntKind) (count : ℕ) (l : Lvalue) (offset step : ℕ) (bytes : List ℕ) → NamesPlace S F P l → AllNameEffects (text_filled place kind count l offset step bytes)
+  pub text_names : (place : Place) (kind : IntKind) (count : ℕ) (l : Lvalue) (offset step : ℕ) (bytes : List ℕ) → NamesPlace S F P l → AllNameEffects (text_filled place kind count l offset step bytes)
   text_names place kind zero l offset step bytes h = tt
   text_names place kind (suc n) l offset step [] h = (write_names (ANumber kind) place (part_at offset l) (Numeric (Word 0)) (part_names offset l h) tt, text_names place kind n l (offset + step) step [] h)
   text_names place kind (suc n) l offset step (b ∷ more) h = (write_names (ANumber kind) place (part_at offset l) (Numeric (Word (extended kind b))) (part_names offset l h) tt, text_names place kind n l (offset + step) step more h)

@@ -1,3 +1,4 @@
+mod Apart
 mod Bodies
 mod Both
 mod Closing
@@ -15,6 +16,10 @@ mod Heads
 mod Limits
 mod Linking
 mod Links
+mod LiteralBodies
+mod LiteralItems
+mod LiteralStatements
+mod Literals
 mod Making
 mod Meaning
 mod Meeting

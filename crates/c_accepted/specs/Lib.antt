@@ -1,8 +1,10 @@
 pub mod Alike
 pub mod Frames
 pub mod Linked
+pub mod Literals
 pub mod Made
 pub mod Meeting
 pub mod Planned
 pub mod Symbols
+pub mod SourceLiterals
 pub mod Wholes

@@ -1,6 +1,6 @@
 //! Laws of accepted sources. Each function does nothing, or names the laws that it rests on, and its contract is the law.
 
-ghost use Rattle.std.specs.Prelude.{◌≡◌, ◌≤◌, ℕ, Bool, Some, List, [], ◌++◌, length};
+ghost use Rattle.std.specs.Prelude.{◌≡◌, ◌≤◌, ℕ, Bool, Some, List, [], ◌++◌, ◌+◌, length};
 ghost use Rattle.mx_base.specs.declared.settings.Flags.{Flags as FlagsOf};
 ghost use Rattle.c_tree.specs.declared.tree.Tree.{Tree as TreeOf};
 ghost use Rattle.c_tree.specs.declared.tree.Item.{Item as ItemOf};
@@ -34,9 +34,11 @@ ghost use Rattle.bounds_plan.specs.ElaborateLaws.{TakesParameters, AllTakeFew, H
 ghost use Rattle.c_accepted.specs.Alike.{meanings_of, IsAt, Front, MeansIt, FoundAlike, GoneAlike, AllTakeWhatTheyHave};
 ghost use Rattle.c_accepted.specs.Frames.{AllPlanned, AllFramed, AreOfBodies};
 ghost use Rattle.c_accepted.specs.Linked.{Source, defined_by, declared_by, IsLinked, CanBeLinked};
-ghost use Rattle.c_accepted.specs.Made.{IsMade};
+ghost use Rattle.c_accepted.specs.Literals.{text_sizes, NamesTexts};
+ghost use Rattle.c_accepted.specs.Made.{TextsApart, IsMade};
 ghost use Rattle.c_accepted.specs.Meeting.{AllMeet};
 ghost use Rattle.c_accepted.specs.Planned.{planned_frames, layout_of_plan, planned_source};
+ghost use Rattle.c_accepted.specs.SourceLiterals.{literal_sizes, AllNameWholeLiterals};
 ghost use Rattle.c_accepted.specs.Wholes.{HasItsType, StayGlobals, NamesWholes, AllNameWholeGlobals};
 ghost use Rattle.c_accepted.specs.Symbols.{arguments_of, HaveSymbols, AllTakeBySymbol};
 
@@ -133,6 +135,20 @@ pub fn expressions_name_whole_globals()
     ensures objects { (x : ExprOf) (functions : Bool) (scope : ScopeOf) → length scope.variables ≤ 4294967295 → (seen x functions scope).broken ≡ [] → (n : NotesOf) (around : Around) (r : Reached) → Front (meanings_of ((seen x functions scope).after n)) around.meanings → IsAt r (meanings_of n) → NamesWholes scope.variables around (expression x around r).effect }
 {}
 
+/// Whatever the types and meanings of its nodes are, each literal that an expression names is named whole: by the number that it has in tree order,
+/// at its offset, and with the size of its text, which is its bytes and one of 0. As many literals are counted as there are such texts; those under
+/// `sizeof` are none.
+pub fn expressions_name_whole_literals()
+    ensures literals { (x : ExprOf) (around : Around) (r : Reached) → NamesTexts r.literal (text_sizes x) around.layout (expression x around r).effect }
+    ensures counted { (x : ExprOf) (around : Around) (r : Reached) → (expression x around r).after.literal ≡ r.literal + length (text_sizes x) }
+{}
+
+/// Each literal that an elaborated function names, in any expression, initialiser or statement of its body, is named whole: by the number that it has
+/// in the whole source, at its offset, and with the size of its text. So it is for every tree, whatever the types and meanings of its nodes are.
+pub fn functions_name_whole_literals()
+    ensures { (tree : TreeOf) (meanings : Meanings) (layout : SourceLayout) (flags : FlagsOf) → AllNameWholeLiterals (literal_sizes tree meanings layout flags) layout (elaborated tree meanings layout flags) }
+{}
+
 /// A global that is known behind some items of an accepted source is known in the end too, by its number and with its type, also where it is declared
 /// again.
 pub fn globals_keep_their_types()
@@ -162,6 +178,11 @@ pub fn plans_have_symbols()
     ensures { (tree : TreeOf) (room : ℕ) → IsFormed tree → room ≤ 32768 → IsAccepted tree room → (literals : List ℕ) (flags : FlagsOf) → let layout = layout_of_plan tree literals in HaveSymbols layout (signatures_of tree (meanings_of (after tree).notes) layout flags) }
 {}
 
+/// In the layout by the plan of a source that declares a function, no global has the symbol of the literals.
+pub fn plans_keep_literals_apart()
+    ensures { (tree : TreeOf) (literals : List ℕ) → 1 ≤ length (after tree).scope.functions → TextsApart (layout_of_plan tree literals) }
+{}
+
 /// Every function of an accepted source, laid out by its plan, is as is asked of it: for its steps to do what it means, for homes to be given to their
 /// values, and for the laws of its accesses, but for the sizes of the globals and literals that it names. The literals may stand anywhere.
 pub fn accepted_functions_are_as_is_asked()
@@ -173,9 +194,10 @@ pub fn planned_sources_can_be_linked()
     ensures { (tree : TreeOf) (room : ℕ) (formed : IsFormed tree) (few : room ≤ 32768) (accepted : IsAccepted tree room) (literals : List ℕ) (flags : FlagsOf) → let source = planned_source tree room formed few accepted literals flags in 1 ≤ length (defined_by source) → CanBeLinked source }
 {}
 
-/// What the functions of a linked program name was made before it started, where each global of the sources was made with the size of its type, in
-/// layouts that are planned by what is known of them; of the functions and literals that a function names it is asked that they were made as it names
-/// them. So the bounds of all pointers have their roots, and in a whole run no access leaves the bounds of its pointer, and none is refused.
+/// What the functions of a linked program name was made before it started, where each global of the sources was made with the size of its type and each
+/// literal with the size of its text, in layouts that are planned by what is known of them; of the functions that a function names it is asked that
+/// they were made as it names them. So the bounds of all pointers have their roots, and in a whole run no access leaves the bounds of its pointer, and
+/// none is refused.
 pub fn linked_programs_name_what_is_made()
     ensures made { (start : List BoundsOf) (takes_outside : ℕ → ℕ) (program : ℕ → Linked) (linked : IsLinked takes_outside program) → IsMade start takes_outside program linked → AllMade start program }
     ensures roots { (start : List BoundsOf) (takes_outside : ℕ → ℕ) (program : ℕ → Linked) (linked : IsLinked takes_outside program) → IsMade start takes_outside program linked → (outside : CalleeOfC → CalleeOfC) → RootedOutside start outside → (depth : ℕ) → RootedCalls start (calls program outside depth) }
