@@ -20,5 +20,7 @@ pub use laws::{
     outside_can_hand_over_pointers, outside_can_keep_to_laws, runs_stay_within_rooted_bounds,
     steps_name_values_of_their_sort, turns_never_grow,
 };
-pub use sources::{small_sources_mean_so, sources_with_every_form_say_so};
+pub use sources::{
+    small_sources_mean_so, small_sources_run_out_so, sources_with_every_form_say_so,
+};
 pub use worked::{compiled_programs_run_so, small_programs_mean_so};

@@ -31,6 +31,26 @@ pub fn small_sources_mean_so()
     ensures freed_twice { EndSo frees_twice narrowing first_object 4096 0 10 (ends (Exit 0) (codes "0\n-1\n-1\n") 8 [] []) }
 {}
 
+/// How the same programs end with too few turns: what they did by then stands, and no turn is left.
+pub fn small_sources_run_out_so()
+    ensures prints { EndSo prints_7 narrowing first_object 4096 0 1 (ends OutOfTurns (codes "7\n") 0 [] []) }
+    ensures inside { EndSo writes_element_3 narrowing first_object 4096 0 1 (ends OutOfTurns (1 ∷ []) 0 (written 0x2000_0003 1 ∷ read 0x2000_0003 1 ∷ []) []) }
+    ensures first_byte_outside { EndSo writes_element_4 narrowing first_object 4096 0 0 (ends OutOfTurns [] 0 [] []) }
+    ensures last_byte_outside { EndSo reads_past_end narrowing first_object 4096 0 0 (ends OutOfTurns [] 0 [] []) }
+    ensures block { EndSo fills_block narrowing first_object 4096 0 5 (ends OutOfTurns (codes "0\n1\n2\n3\n4\n") 0 (written 0x3000_0000 1 ∷ read 0x3000_0000 1 ∷ written 0x3000_0001 1 ∷ read 0x3000_0001 1 ∷ written 0x3000_0002 1 ∷ read 0x3000_0002 1 ∷ written 0x3000_0003 1 ∷ read 0x3000_0003 1 ∷ written 0x3000_0004 1 ∷ read 0x3000_0004 1 ∷ []) []) }
+    ensures pointer_back { EndSo keeps_pointer narrowing array_and_pointer 4096 0 0 (ends OutOfTurns [] 0 [] []) }
+    ensures pointer_spoiled { EndSo spoils_pointer narrowing array_and_pointer 4096 0 1 (ends OutOfTurns [] 0 (written 0x2000_0008 8 ∷ read 0x2000_0008 1 ∷ written 0x2000_0008 1 ∷ read 0x2000_0008 8 ∷ written 0x2000_0005 1 ∷ []) (0x200 ∷ [])) }
+    ensures megabytes { EndSo spreads_pointers narrowing first_object 4096 0 1 (ends OutOfTurns [] 0 (written 0x3000_0000 8 ∷ written 0x3000_0008 8 ∷ written 0x3010_0000 8 ∷ []) (0x300 ∷ 0x301 ∷ [])) }
+    ensures unmapped { EndSo reads_last_byte narrowing first_object 4096 0 0 (ends OutOfTurns [] 0 [] []) }
+    ensures narrowed { EndSo prints_members narrowing first_object 4096 0 1 (ends OutOfTurns (codes "536870912\n536870927\n536870916\n536870923\n") 0 [] []) }
+    ensures not_narrowed { EndSo prints_members not_narrowing first_object 4096 0 1 (ends OutOfTurns (codes "536870912\n536870927\n536870912\n536870927\n") 0 [] []) }
+    ensures struct_copied { EndSo copies_pointers narrowing pairs_of_pointers 4096 0 0 (ends OutOfTurns [] 0 [] []) }
+    ensures too_deep { EndSo descends_2 narrowing first_object 3 1 2 (ends OutOfTurns [] 0 [] []) }
+    ensures deep { EndSo descends_1 narrowing first_object 3 1 3 (ends OutOfTurns [] 0 [] []) }
+    ensures division { EndSo divides_by_0 narrowing first_object 4096 0 0 (ends OutOfTurns [] 0 [] []) }
+    ensures freed_twice { EndSo frees_twice narrowing first_object 4096 0 1 (ends OutOfTurns (codes "0\n-1\n-1\n") 0 [] []) }
+{}
+
 /// How programs end that have every form of expression, initialiser and statement, and what they print, by their meaning and
 /// by the steps that they are compiled to. The numbers are those that a C compiler's program prints.
 pub fn sources_with_every_form_say_so()
