@@ -35,6 +35,7 @@ use Rattle.c_check_statements.specs.Structs.{open_struct, closed_struct, laid_st
 use Rattle.c_check_statements.specs.Sources.{is_definition, global_walk, item_kind, item, items, at_start}
 use Rattle.c_check_statements.specs.Waits.{waits_stmt}
 use Rattle.c_check_statements.specs.Walks.{Walk, ◌then◌, walk_all, at_node, inside}
+use Rattle.c_check_statements.proofs.Scopes.{scope_gathered}
 use Rattle.c_check.specs.Accepted.{at_first, is_too_large, IsAccepted, after}
 use Rattle.c_check.specs.Rooms.{HaveRoom}
 use Rattle.c_check.proofs.Emptied.{first_empty, second_empty, none_at, not_broken, neither}
@@ -131,18 +132,6 @@ same_structs : (old new : State) → new.scope.structs ≡ old.scope.structs →
 same_structs old new e = ([], e ∙ nothing_more old.scope.structs)
 
 -- ---- structs
-
-scope_introduced : (introduce : CType → State → State) (kind : Option CType) (state : State) → ((t : CType) (s : State) → (introduce t s).scope ≡ s.scope) → (introduced introduce kind state).scope ≡ state.scope
-scope_introduced introduce None state h = refl
-scope_introduced introduce (Some t) state h = h t state
-
-scope_member : (members : List Member) (d : Decl) (state : State) → (member_declared members d state).state.scope ≡ state.scope
-unfolding declares
-scope_member members d state = scope_introduced _ _ _ (λ t s. refl)
-
-scope_gathered : (members : List Member) (all : List Decl) (state : State) → (gathered members all state).state.scope ≡ state.scope
-scope_gathered members [] state = refl
-scope_gathered members (d ∷ more) state = scope_gathered (with_member d.name (member_declared members d state).kind members) more (member_declared members d state).state ∙ scope_member members d state
 
 set_last : (xs : List StructInfo) (a s : StructInfo) → slice_set (xs ++ a ∷ []) (length xs) s ≡ xs ++ s ∷ []
 set_last [] a s = refl

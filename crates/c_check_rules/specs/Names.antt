@@ -1,6 +1,5 @@
 -- What a name stands for: the innermost visible local, else a global variable or function, else a service or builtin.
-use Rattle.std.specs.Prelude.{ℕ, ◌+◌, min, if◌then◌else◌, List, [], ◌∷◌, map, Option, None, Some, slice_get}
-use Rattle.std.specs.Str.{bytes_eq}
+use Rattle.std.specs.Prelude.{ℕ, min, List, map, Option, None, Some, slice_get}
 use Rattle.c_types.specs.Types.{CType}
 use Rattle.c_check_rules.specs.declared.names.Scope.{Scope}
 use Rattle.c_check_rules.specs.declared.names.Member.{Member}
@@ -12,11 +11,7 @@ use Rattle.c_check_rules.specs.declared.predeclared.Bind.TheVariants as b
 use Rattle.c_check_rules.specs.declared.predeclared.Found.{Found}
 use Rattle.c_check_rules.specs.declared.predeclared.Found.TheVariants as f
 use Rattle.c_check_rules.specs.Predeclared.{predeclared}
-
--- the last place of a name in a list of names, whose first place is `at`; `found` where it has none
-abbrev pub last_at : List ℕ → List (List ℕ) → (at : ℕ) → (found : Option ℕ) → Option ℕ
-last_at name [] at found = found
-last_at name (n ∷ more) at found = last_at name more (at + 1) (if bytes_eq n name then Some at else found)
+pub use Rattle.c_check_rules.specs.Named.{last_at}
 
 abbrev pub tags : List StructInfo → List (List ℕ)
 tags = map (λ x. x.tag)

@@ -5,6 +5,7 @@
 mod constants;
 mod conversions;
 mod kinds;
+mod named;
 mod names;
 mod operators;
 mod predeclared;
@@ -15,9 +16,10 @@ pub use conversions::{
     cast_fits, common, converts, fits_struct, is_scalar, is_void, is_void_pointer, promoted,
 };
 pub use kinds::{Core, Layer, Outer, Type, same};
+pub use named::{HasName, NamedItems};
 pub use names::{
-    Function, Local, Member, Scope, StructInfo, Variable, copy_name, copy_types, last_member,
-    member_kind, member_named, same_name,
+    Function, Local, Member, Scope, StructInfo, Variable, copy_name, copy_types, member_kind,
+    member_named, same_name,
 };
 pub use operators::{binary_kind, choice_kind};
 pub use predeclared::{Bind, Found, predeclared_at};

@@ -6,11 +6,12 @@ ghost use Rattle.std.specs.Option.{option_copied};
 ghost use Rattle.c_check_rules.specs.Names as spec;
 
 use crate::kinds::Type;
+use crate::named::{HasName, NamedItems};
 use crate::predeclared::{Bind, Found, predeclared};
 use c_tree::Name;
 use c_types::Layout;
 use mx_base::OutOfMemory;
-use sqlite_items::{Items, at};
+use sqlite_items::Items;
 use std::alloc::Global;
 
 /// A member of a struct.
@@ -20,13 +21,29 @@ pub struct Member {
     pub kind: Type,
 }
 
+impl HasName for Member {
+    ghost name_of = { λ x. x.name };
+
+    fn name(&self) -> &[u8] {
+        self.name.as_slice()
+    }
+}
+
 /// A struct by its tag. Its layout, its count of scalars (to 65) and its members are there once it is closed.
 #[derive(Drop)]
 pub struct StructInfo {
     pub tag: Name,
     pub laid: Option<Layout>,
     pub scalars: u64,
-    pub members: Items<Member>,
+    pub members: NamedItems<Member>,
+}
+
+impl HasName for StructInfo {
+    ghost name_of = { λ x. x.tag };
+
+    fn name(&self) -> &[u8] {
+        self.tag.as_slice()
+    }
 }
 
 /// A global variable, and whether a declaration that defines it has been seen.
@@ -35,6 +52,14 @@ pub struct Variable {
     pub name: Name,
     pub kind: Type,
     pub defined: bool,
+}
+
+impl HasName for Variable {
+    ghost name_of = { λ x. x.name };
+
+    fn name(&self) -> &[u8] {
+        self.name.as_slice()
+    }
 }
 
 /// A function, and whether its body has been seen.
@@ -46,6 +71,14 @@ pub struct Function {
     pub defined: bool,
 }
 
+impl HasName for Function {
+    ghost name_of = { λ x. x.name };
+
+    fn name(&self) -> &[u8] {
+        self.name.as_slice()
+    }
+}
+
 /// A parameter or local by its number in its function.
 #[derive(Drop)]
 pub struct Local {
@@ -54,14 +87,22 @@ pub struct Local {
     pub number: u32,
 }
 
+impl HasName for Local {
+    ghost name_of = { λ x. x.name };
+
+    fn name(&self) -> &[u8] {
+        self.name.as_slice()
+    }
+}
+
 /// What is known at a place of a source: the structs, global variables and functions in the order in which they were first declared, and
 /// the locals that are visible, the innermost last.
 #[derive(Drop)]
 pub struct Scope {
-    pub structs: Items<StructInfo>,
-    pub variables: Items<Variable>,
-    pub functions: Items<Function>,
-    pub locals: Items<Local>,
+    pub structs: NamedItems<StructInfo>,
+    pub variables: NamedItems<Variable>,
+    pub functions: NamedItems<Function>,
+    pub locals: NamedItems<Local>,
     /// Where the locals of the innermost block begin.
     pub from: usize,
     /// The types of all parameters and locals of the function so far, by their numbers.
@@ -112,52 +153,28 @@ impl Scope {
     pub fn tag(&self, name: &[u8]) -> Option<usize>
         ensures { result ≡ spec.tag_at self.now name.now }
     {
-        let mut found = None;
-        'names: for (at, info) in self.structs.as_slice().iter().enumerate() {
-            if same_name(info.tag.as_slice(), name) {
-                found = Some(at);
-            }
-        }
-        found
+        self.structs.find(name)
     }
 
     /// The number of the global variable of the name.
     pub fn variable(&self, name: &[u8]) -> Option<usize>
         ensures { result ≡ spec.variable_at self.now name.now }
     {
-        let mut found = None;
-        'names: for (at, variable) in self.variables.as_slice().iter().enumerate() {
-            if same_name(variable.name.as_slice(), name) {
-                found = Some(at);
-            }
-        }
-        found
+        self.variables.find(name)
     }
 
     /// The number of the function of the name.
     pub fn function(&self, name: &[u8]) -> Option<usize>
         ensures { result ≡ spec.function_at self.now name.now }
     {
-        let mut found = None;
-        'names: for (at, function) in self.functions.as_slice().iter().enumerate() {
-            if same_name(function.name.as_slice(), name) {
-                found = Some(at);
-            }
-        }
-        found
+        self.functions.find(name)
     }
 
     /// Where the innermost visible local of the name stands in `locals`.
     pub fn local(&self, name: &[u8]) -> Option<usize>
         ensures { result ≡ spec.local_at self.now name.now }
     {
-        let mut found = None;
-        'names: for (at, local) in self.locals.as_slice().iter().enumerate() {
-            if same_name(local.name.as_slice(), name) {
-                found = Some(at);
-            }
-        }
-        found
+        self.locals.find(name)
     }
 
     /// What a name stands for.
@@ -223,29 +240,16 @@ fn function_found(
     }
 }
 
-/// The place of the last member of the name.
-pub fn last_member(members: &[Member], name: &[u8]) -> Option<usize>
-    ensures { result ≡ spec.last_member members.now name.now }
-{
-    let mut found = None;
-    'names: for (place, member) in members.iter().enumerate() {
-        if same_name(member.name.as_slice(), name) {
-            found = Some(place);
-        }
-    }
-    found
-}
-
 /// The type of the member of the name.
 pub fn member_named(
     alloc: Global,
-    members: &[Member],
+    members: &NamedItems<Member>,
     name: &[u8],
 ) -> Result<Option<Type>, OutOfMemory>
     ensures { IfOk result (λ t. t ≡ spec.member_named members.now name.now) }
 {
-    match last_member(members, name) {
-        Some(place) => member_kind(alloc, at(members, place)),
+    match members.find(name) {
+        Some(place) => member_kind(alloc, members.get(place)),
         None => Ok(None),
     }
 }

@@ -1,10 +1,9 @@
 -- From the walks through the parts of a statement, the walk through blocks, loops and `return`.
-use Rattle.std.proofs.Common.{◌≡◌, refl, sym, ap, subst, ◌∙◌, Bool, true, false, List, [], ◌∷◌, ◌++◌}
-use Rattle.std.specs.Prelude.{Option, None, Some, Result, Ok, Err}
+use Rattle.std.proofs.Common.{◌≡◌, refl, sym, subst, Bool, false, []}
+use Rattle.std.specs.Prelude.{Option, Result, Ok, Err}
 use Rattle.mx_base.specs.declared.places.Place.{Place}
 use Rattle.c_tree.specs.declared.tree.Expr.{Expr}
 use Rattle.c_check_typing.specs.declared.fault.CheckFault.{CheckFault}
-use Rattle.c_check_typing.specs.declared.fault.CheckFault.TheVariants.{Refused, OutOfMemory}
 use Rattle.c_check_statements.specs.declared.state.State.{State}
 use Rattle.c_check_statements.specs.Walks.{Walk, Walks, stay, ◌then◌, at_node}
 use Rattle.c_check_statements.specs.Statements.{block, block_by, enter_block, leave_block, for_rest, return_walk}

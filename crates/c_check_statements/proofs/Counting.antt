@@ -1,6 +1,6 @@
 -- Counts one after another.
-use Rattle.std.proofs.Common.{◌≡◌, refl, sym, ◌∙◌, ap, subst, Bool, false, List, [], ◌∷◌, ◌++◌}
-use Rattle.std.specs.Prelude.{Option, None, Some, Result, Ok, Err}
+use Rattle.std.proofs.Common.{◌≡◌, sym, ◌∙◌, ap, subst, false, List, [], ◌∷◌, ◌++◌}
+use Rattle.std.specs.Prelude.{Option, Some, Result, Ok, Err}
 use Rattle.c_tree.specs.declared.tree.Expr.{Expr}
 use Rattle.c_check_rules.specs.declared.names.Scope.{Scope}
 use Rattle.c_check_typing.specs.declared.typed.Typed.{Typed}
@@ -9,7 +9,7 @@ use Rattle.c_check_typing.specs.declared.fault.Broken.{Broken}
 use Rattle.c_check_typing.specs.declared.fault.CheckFault.{CheckFault}
 use Rattle.c_check_typing.specs.declared.fault.CheckFault.TheVariants.{Refused, OutOfMemory}
 use Rattle.c_check_typing.specs.Refusals.{FirstIs, broken_at}
-use Rattle.c_check_typing.specs.Notes.{Seen, Reads}
+use Rattle.c_check_typing.specs.Notes.{Reads}
 use Rattle.c_check_typing.specs.Expressions.{seen}
 use Rattle.c_check_statements.specs.declared.counts.Counts.{Counts}
 use Rattle.c_check_statements.specs.Counts.{Counted, counted, next_counts, count_after, ReadsCounts}

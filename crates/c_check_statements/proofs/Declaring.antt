@@ -1,5 +1,5 @@
 -- From the walk through the counts of a declaration, and the rules of the declaration itself, the declaration.
-use Rattle.std.proofs.Common.{◌≡◌, refl, sym, ◌∙◌, ap, subst, Bool, List, [], ◌∷◌, ◌++◌}
+use Rattle.std.proofs.Common.{◌≡◌, refl, sym, ◌∙◌, ap, subst, Bool, List, [], ◌++◌}
 use Rattle.std.specs.Prelude.{Option, None, Some, Result, Ok, Err}
 use Rattle.c_tree.specs.declared.tree.Decl.{Decl}
 use Rattle.c_tree.specs.declared.tree.Expr.{Expr}
@@ -15,7 +15,7 @@ use Rattle.c_check_statements.specs.declared.counts.Counts.{Counts}
 use Rattle.c_check_statements.specs.declared.decls.Use.{Use}
 use Rattle.c_check_statements.specs.declared.state.State.{State}
 use Rattle.c_check_statements.specs.Counts.{counted, no_counts, ReadsCounts}
-use Rattle.c_check_statements.specs.Declarations.{Declared, Declares, Judged, declared_with, declares, decl_kinds, kind_of, counts_of, after_counts}
+use Rattle.c_check_statements.specs.Declarations.{Declares, Judged, declared_with, declares, decl_kinds, kind_of, counts_of, after_counts}
 
 first_stays : {xs : List Broken} {b : Broken} (ys : List Broken) → FirstIs xs b → FirstIs (xs ++ ys) b
 first_stays ys h = record { more = h.more ++ ys; is = ap (λ (z : List Broken). z ++ ys) h.is }

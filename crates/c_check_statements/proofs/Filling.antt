@@ -1,6 +1,6 @@
 -- From the walks through the parts of an initialiser, the walk through it.
 use Rattle.std.proofs.Common.{ℕ, ◌+◌, ◌<◌, ◌≡◌, refl, sym, ◌∙◌, ap, subst, Bool, true, false, List, ◌∷◌, length, map, drop, slice_index_or}
-use Rattle.std.specs.Prelude.{Option, None, Some, Result, Ok, Err}
+use Rattle.std.specs.Prelude.{Option, Some, Result, Ok, Err}
 use Rattle.c_tree.specs.declared.tree.Expr.{Expr}
 use Rattle.c_tree.specs.declared.tree.Init.{Init}
 use Rattle.c_types.specs.Types.{CType}
@@ -12,7 +12,7 @@ use Rattle.c_check_typing.specs.Notes.{Seen, first_literals, unevaluated, Reads}
 use Rattle.c_check_statements.specs.declared.initialisers.Filled.{Filled}
 use Rattle.c_check_statements.specs.declared.state.State.{State}
 use Rattle.c_check_statements.specs.Initialisers.{filling, fills_target, fills_known, filling_walk, kept_texts, notes_word, fills, part, part_of, part_walk, parts}
-use Rattle.c_check_statements.specs.Walks.{Walked, Walk, past, seen_in, Walks, ReadsValue}
+use Rattle.c_check_statements.specs.Walks.{Walked, past, seen_in, Walks, ReadsValue}
 use Rattle.c_check_statements.proofs.Steps.{next_of, then_go, then_stops}
 
 -- ---- one expression

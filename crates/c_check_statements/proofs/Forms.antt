@@ -1,8 +1,8 @@
 -- The walk through each form of statement and initialiser, by the walks through its parts.
-use Rattle.std.proofs.Common.{ℕ, ◌≡◌, refl, ◌∙◌, ap, subst, sym, rules, List, map, length}
+use Rattle.std.proofs.Common.{ℕ, ◌≡◌, ◌∙◌, ap, subst, sym, rules, List, map, length}
 use Rattle.std.specs.Option.{option_map}
 use Rattle.std.proofs.lemmas.List.{length-map}
-use Rattle.std.specs.Prelude.{Option, Result, Ok, Err}
+use Rattle.std.specs.Prelude.{Option, Result}
 use Rattle.mx_base.specs.declared.places.Place.{Place}
 use Rattle.c_tree.specs.declared.tree.Decl.{Decl}
 use Rattle.c_tree.specs.declared.tree.Expr.{Expr}
@@ -18,7 +18,7 @@ use Rattle.c_types.specs.Types.{CType}
 use Rattle.c_check_typing.specs.declared.fault.CheckFault.{CheckFault}
 use Rattle.c_check_statements.specs.declared.initialisers.Filled.{Filled}
 use Rattle.c_check_statements.specs.declared.state.State.{State}
-use Rattle.c_check_statements.specs.Walks.{Walked, Walk, Walks, ◌then◌, maybe, walk_all, maybe_reads}
+use Rattle.c_check_statements.specs.Walks.{Walked, Walks, ◌then◌, maybe, walk_all, maybe_reads}
 use Rattle.c_check_statements.specs.Initialisers.{one, parts, many_judged, fills}
 use Rattle.c_check_statements.specs.Statements.{statement, local, if_walk, while_walk, looped, tested, for_rest, jump, return_walk, block}
 

@@ -4,3 +4,5 @@ pub mod Filling
 pub mod Forms
 pub mod Steps
 pub mod Blocks
+pub mod Scopes
+pub mod Marking

@@ -1,7 +1,7 @@
 -- From the walks through parts, the walk through the whole.
-use Rattle.std.proofs.Common.{ℕ, suc, ◌+◌, ◌<◌, ◌≤◌, ◌≡◌, refl, sym, ◌∙◌, ap, subst, Bool, true, false, List, [], ◌∷◌, ◌++◌, length, map, drop, drop-cons, slice_index_or, add-one}
+use Rattle.std.proofs.Common.{ℕ, suc, ◌+◌, ◌<◌, ◌≤◌, ◌≡◌, refl, sym, ◌∙◌, ap, subst, List, [], ◌∷◌, ◌++◌, length, map, drop, drop-cons, slice_index_or, add-one}
 use Rattle.std.proofs.lemmas.List.{drop_all}
-use Rattle.std.specs.Prelude.{Option, None, Some, Result, Ok, Err}
+use Rattle.std.specs.Prelude.{Option, Some, Result, Ok, Err}
 use Rattle.mx_base.specs.declared.places.Place.{Place}
 use Rattle.c_tree.specs.declared.tree.Expr.{Expr}
 use Rattle.c_types.specs.Types.{CType}
@@ -12,7 +12,7 @@ use Rattle.c_check_typing.specs.declared.fault.CheckKind.{CheckKind}
 use Rattle.c_check_typing.specs.declared.fault.Broken.{Broken}
 use Rattle.c_check_typing.specs.declared.fault.CheckFault.{CheckFault}
 use Rattle.c_check_typing.specs.declared.fault.CheckFault.TheVariants.{Refused, OutOfMemory}
-use Rattle.c_check_typing.specs.Refusals.{FirstIs, broken_at, all_at}
+use Rattle.c_check_typing.specs.Refusals.{FirstIs, all_at}
 use Rattle.c_check_statements.specs.declared.state.State.{State}
 use Rattle.c_check_statements.specs.Walks.{Walked, Walk, ◌then◌, walk_all, at_node, inside, past, reads, seen_in, Walks, ReadsValue, Judges}
 use Rattle.c_check_statements.specs.Declarations.{Declared, Declares, and_then}

@@ -1,9 +1,8 @@
 -- The counts of a declaration: constant integers from 1 to 16,777,216.
-use Rattle.std.specs.Prelude.{◌≡◌, ℕ, nat_le, Bool, true, false, not, ◌&&◌, ◌||◌, if◌then◌else◌, List, [], ◌∷◌, ◌++◌, Option, None, Some, Result, Ok, Err}
+use Rattle.std.specs.Prelude.{◌≡◌, ℕ, nat_le, Bool, true, false, not, ◌&&◌, ◌||◌, List, [], ◌∷◌, ◌++◌, Option, None, Some, Result, Ok, Err}
 use Rattle.c_tree.specs.declared.tree.Expr.{Expr}
 use Rattle.c_types.specs.Types.{CType, Array}
 use Rattle.c_check_rules.specs.declared.kinds.Outer.{Outer}
-use Rattle.c_check_rules.specs.declared.kinds.Outer.TheVariants as o
 use Rattle.c_check_rules.specs.declared.constants.Constant.{Constant}
 use Rattle.c_check_rules.specs.declared.constants.Constant.TheVariants as c
 use Rattle.c_check_rules.specs.declared.names.Scope.{Scope}

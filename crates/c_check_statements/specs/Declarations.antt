@@ -1,6 +1,6 @@
 -- Declarations: the type of a declared name, the rules that it breaks, and what is known after it. A declaration that breaks a rule declares
 -- nothing.
-use Rattle.std.specs.Prelude.{◌≡◌, ℕ, ◌==◌, Bool, true, false, not, ◌&&◌, ◌||◌, if◌then◌else◌, is_some, List, [], ◌∷◌, ◌++◌, length, take, drop, codes, Option, None, Some, Result, Ok, Err, slice_get, slice_set}
+use Rattle.std.specs.Prelude.{◌≡◌, ℕ, Bool, true, false, not, ◌&&◌, ◌||◌, if◌then◌else◌, is_some, List, [], ◌∷◌, ◌++◌, length, take, drop, codes, Option, None, Some, Result, Ok, Err, slice_get, slice_set}
 use Rattle.std.specs.Str.{bytes_eq}
 use Rattle.mx_base.specs.declared.places.Place.{Place}
 use Rattle.c_tree.specs.declared.tree.Decl.{Decl}
@@ -9,10 +9,8 @@ use Rattle.c_check_rules.specs.declared.predeclared.Bind.{Bind}
 use Rattle.c_check_rules.specs.declared.predeclared.Bind.TheVariants as b
 use Rattle.c_check_rules.specs.declared.names.Scope.{Scope}
 use Rattle.c_check_rules.specs.declared.names.StructInfo.{StructInfo}
-use Rattle.c_check_rules.specs.declared.names.Member.{Member}
 use Rattle.c_check_rules.specs.declared.names.Variable.{Variable}
 use Rattle.c_check_rules.specs.declared.names.Function.{Function}
-use Rattle.c_check_rules.specs.declared.names.Local.{Local}
 use Rattle.c_check_rules.specs.Kinds.{same_kinds}
 use Rattle.c_check_rules.specs.Sizes.{is_sized}
 use Rattle.c_check_rules.specs.Names.{local_names, numbered, variable_at, function_at}

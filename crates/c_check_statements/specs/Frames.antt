@@ -1,6 +1,6 @@
 -- The room of a function: a scalar parameter or local to which no `&` is applied is private, the others stand in the data frame in order, each at
 -- the next multiple of its alignment. At most 64 are private, and the frame has at most 1,048,576 bytes, a multiple of 16.
-use Rattle.std.specs.Prelude.{ℕ, ◌+◌, ◌==◌, nat_lt, min, Bool, true, false, not, ◌&&◌, ◌||◌, if◌then◌else◌, is_some, List, [], ◌∷◌, Option, None, Some}
+use Rattle.std.specs.Prelude.{ℕ, ◌+◌, ◌==◌, nat_lt, min, Bool, false, not, ◌&&◌, ◌||◌, if◌then◌else◌, is_some, List, [], ◌∷◌, Some}
 use Rattle.c_types.specs.Types.{CType}
 use Rattle.c_check_rules.specs.declared.names.StructInfo.{StructInfo}
 use Rattle.c_check_rules.specs.Conversions.{is_scalar}
@@ -32,6 +32,11 @@ is_large room = nat_lt 64 room.privates || not (is_some room.free)
 abbrev pub is_among : ℕ → List ℕ → Bool
 is_among n [] = false
 is_among n (m ∷ more) = (m == n) || is_among n more
+
+-- of these marks, numbered from the first number on, those stand that stood, and those of the numbers in a list
+abbrev pub marked : (first : ℕ) → List ℕ → List Bool → List Bool
+marked first numbers [] = []
+marked first numbers (mark ∷ more) = (mark || is_among first numbers) ∷ marked (first + 1) numbers more
 
 -- the variables of these types, numbered from the first number on, of which `&` is applied to those of the taken numbers
 abbrev pub variables_from : (number : ℕ) → (taken : List ℕ) → List CType → List BodyVariable

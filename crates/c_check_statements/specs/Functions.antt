@@ -12,13 +12,12 @@ use Rattle.c_check_typing.specs.declared.fault.CheckKind.{CheckKind}
 use Rattle.c_check_typing.specs.declared.fault.CheckKind.TheVariants.{BadType, ManyParams, ManyPointers, FrameLarge}
 use Rattle.c_check_typing.specs.Refusals.{breaks}
 use Rattle.c_check_statements.specs.declared.state.State.{State}
-use Rattle.c_check_statements.specs.declared.state.Body.{Body}
 use Rattle.c_check_statements.specs.declared.state.BodyVariable.{BodyVariable}
-use Rattle.c_check_statements.specs.Declarations.{Declared, and_then, parameter_declared, function_declared, function_number, is_main}
+use Rattle.c_check_statements.specs.Declarations.{and_then, parameter_declared, function_declared, function_number, is_main}
 use Rattle.c_check_statements.specs.Frames.{no_room, room_of, is_large, variables_from}
 use Rattle.c_check_statements.specs.Statements.{maybe_statement}
 use Rattle.c_check_statements.specs.Waits.{waits_stmt}
-use Rattle.c_check_statements.specs.Walks.{Walked, Walk, ◌then◌, walk_all, at_node, inside}
+use Rattle.c_check_statements.specs.Walks.{Walk, ◌then◌, walk_all, at_node, inside}
 
 -- ---- parameters
 

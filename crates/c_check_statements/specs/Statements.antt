@@ -1,5 +1,5 @@
 -- Statements: the rules that each breaks by itself, behind those of its parts, and what is known after it.
-use Rattle.std.specs.Prelude.{ℕ, nat_lt, Bool, true, false, not, ◌&&◌, is_some, List, [], ◌∷◌, ◌++◌, length, take, Option, None, Some}
+use Rattle.std.specs.Prelude.{nat_lt, Bool, true, false, not, ◌&&◌, List, [], length, take, Option, None, Some}
 use Rattle.mx_base.specs.declared.places.Place.{Place}
 use Rattle.c_tree.specs.declared.tree.Decl.{Decl}
 use Rattle.c_tree.specs.declared.tree.Expr.{Expr}
@@ -8,17 +8,14 @@ use Rattle.c_tree.specs.declared.tree.Stmt.{Stmt, fold-Stmt}
 use Rattle.c_tree.specs.declared.tree.StmtKind.{StmtKind-F}
 use Rattle.c_tree.specs.declared.tree.StmtKind.TheOpen as s
 use Rattle.c_types.specs.Types.{CType}
-use Rattle.c_check_rules.specs.declared.kinds.Outer.{Outer}
-use Rattle.c_check_rules.specs.declared.kinds.Outer.TheVariants as o
 use Rattle.c_check_rules.specs.declared.names.StructInfo.{StructInfo}
-use Rattle.c_check_rules.specs.Kinds.{outer_of}
 use Rattle.c_check_rules.specs.Sizes.{scalars_in}
 use Rattle.c_check_rules.specs.Conversions.{is_scalar, is_void, converts}
 use Rattle.c_check_typing.specs.declared.typed.Typed.{Typed}
 use Rattle.c_check_typing.specs.declared.fault.CheckKind.{CheckKind}
 use Rattle.c_check_typing.specs.declared.fault.CheckKind.TheVariants.{BadType, LargeCopy}
 use Rattle.c_check_typing.specs.Refusals.{breaks}
-use Rattle.c_check_typing.specs.Rules.{decayed, is_array, is_struct}
+use Rattle.c_check_typing.specs.Rules.{decayed}
 use Rattle.c_check_statements.specs.declared.initialisers.Filled.TheVariants as f
 use Rattle.c_check_statements.specs.declared.state.State.{State}
 use Rattle.c_check_statements.specs.Declarations.{local_declared, and_then}

@@ -1,5 +1,5 @@
 -- Structs: a tag is known from its opening on, and the struct has a size once it is closed.
-use Rattle.std.specs.Prelude.{◌≡◌, ℕ, ◌+◌, nat_lt, min, Bool, true, false, not, ◌||◌, if◌then◌else◌, is_some, List, [], ◌∷◌, ◌++◌, length, map, slice_set, Option, None, Some, Result, Ok, Err}
+use Rattle.std.specs.Prelude.{◌≡◌, ℕ, ◌+◌, Bool, true, false, not, is_some, List, [], ◌∷◌, ◌++◌, length, map, slice_set, Option, None, Some, Result, Ok, Err}
 use Rattle.mx_base.specs.declared.places.Place.{Place}
 use Rattle.c_tree.specs.declared.tree.Decl.{Decl}
 use Rattle.c_types.specs.Types.{CType}
@@ -8,7 +8,6 @@ use Rattle.c_check_rules.specs.declared.names.StructInfo.{StructInfo}
 use Rattle.c_check_rules.specs.declared.names.Member.{Member}
 use Rattle.c_check_rules.specs.Sizes.{limit, scalars_in, counted}
 use Rattle.c_check_rules.specs.Names.{last_at, member_names, tag_at}
-use Rattle.c_check_typing.specs.declared.fault.CheckKind.{CheckKind}
 use Rattle.c_check_typing.specs.declared.fault.CheckKind.TheVariants.{Twice, BadCount}
 use Rattle.c_check_typing.specs.declared.fault.Broken.{Broken}
 use Rattle.c_check_typing.specs.declared.fault.CheckFault.{CheckFault}

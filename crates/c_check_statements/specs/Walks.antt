@@ -1,5 +1,5 @@
 -- Walks through a tree: what is known after a part of it, and the rules that are broken in it, in tree order.
-use Rattle.std.specs.Prelude.{◌≡◌, ℕ, Bool, true, false, List, [], ◌∷◌, ◌++◌, Option, None, Some, Result, Ok, Err}
+use Rattle.std.specs.Prelude.{◌≡◌, false, List, [], ◌∷◌, ◌++◌, Option, None, Some, Result, Ok, Err}
 use Rattle.mx_base.specs.declared.places.Place.{Place}
 use Rattle.c_tree.specs.declared.tree.Expr.{Expr}
 use Rattle.c_check_typing.specs.declared.typed.Typed.{Typed}

@@ -1,8 +1,8 @@
 //! Declarations of variables, parameters and functions.
 
-ghost use Rattle.std.specs.Prelude.{◌≡◌, IfOk, OnOk, Some};
+ghost use Rattle.std.specs.Prelude.{◌≡◌, IfOk, OnOk, None, Some};
 ghost use Rattle.std.specs.Option.{option_copied};
-ghost use Rattle.c_check_rules.specs.Names.{numbered};
+ghost use Rattle.c_check_rules.specs.Names.{last_at, variable_names, function_names, numbered};
 ghost use Rattle.c_check_statements.specs.Declarations as spec;
 ghost use Rattle.c_check_statements.specs.Declarations.{Declares};
 
@@ -10,8 +10,8 @@ use crate::counts::{Counts, arrayed, read_counts};
 use crate::reading::refused;
 use crate::state::State;
 use c_check_rules::{
-    Bind, Function, Local, Scope, StructInfo, Type, Variable, copy_name, is_scalar, is_sized,
-    is_void, predeclared_at, same, same_name,
+    Bind, Function, Local, NamedItems, Scope, StructInfo, Type, Variable, copy_name, is_scalar,
+    is_sized, is_void, predeclared_at, same, same_name,
 };
 use c_check_typing::{CheckFault, CheckKind, Notes, base_kind, starred};
 use c_tree::{Decl, Name};
@@ -178,15 +178,10 @@ fn number_in(count: usize, found: Option<usize>) -> u32
 fn is_here(scope: &Scope, name: &[u8]) -> bool
     ensures { result ≡ spec.stands_here name.now scope.now }
 {
-    let locals = scope.locals.as_slice();
-    let mut i = scope.from;
-    'locals: while i < locals.len() {
-        if same_name(locals[i].name.as_slice(), name) {
-            return true;
-        }
-        i += 1;
+    match scope.local(name) {
+        Some(place) => scope.from <= place,
+        None => false,
     }
-    false
 }
 
 fn add_local(alloc: Global, state: &mut State, name: &Name, kind: &Type) -> Result<(), OutOfMemory>
@@ -306,18 +301,15 @@ fn global_twice(scope: &Scope, name: &[u8], kind: &Option<Type>) -> bool
 }
 
 fn put_variable(
-    all: &mut Items<Variable>,
+    all: &mut NamedItems<Variable>,
     found: Option<usize>,
     v: Variable,
 ) -> Result<(), OutOfMemory>
+    requires { found ≡ last_at v.name (variable_names all.old) 0 None }
     ensures { OnOk result (all.new ≡ spec.put_variable all.old found v) }
 {
     match found {
-        Some(at) => {
-            if at < all.len() {
-                all.set(at, v);
-            }
-        }
+        Some(at) => all.set(at, v),
         None => all.push(v)?,
     }
     Ok(())
@@ -468,18 +460,15 @@ fn function_twice(
 }
 
 fn put_function(
-    all: &mut Items<Function>,
+    all: &mut NamedItems<Function>,
     found: Option<usize>,
     f: Function,
 ) -> Result<(), OutOfMemory>
+    requires { found ≡ last_at f.name (function_names all.old) 0 None }
     ensures { OnOk result (all.new ≡ spec.put_function all.old found f) }
 {
     match found {
-        Some(at) => {
-            if at < all.len() {
-                all.set(at, f);
-            }
-        }
+        Some(at) => all.set(at, f),
         None => all.push(f)?,
     }
     Ok(())

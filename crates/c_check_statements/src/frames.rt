@@ -1,6 +1,6 @@
 //! The room of a function.
 
-ghost use Rattle.std.specs.Prelude.{◌≡◌, ◌≤◌, IfOk};
+ghost use Rattle.std.specs.Prelude.{◌≡◌, ◌≤◌, true, false, replicate, slice_index_or, slice_set, IfOk};
 ghost use Rattle.c_check_statements.specs.Frames as spec;
 
 use crate::placing::kind_placed;
@@ -56,18 +56,38 @@ pub fn is_large(structs: &[StructInfo], variables: &[BodyVariable]) -> bool
     64 < room.privates || room.free.is_none()
 }
 
-fn is_among(number: usize, all: &[u32]) -> bool
-    ensures { result ≡ spec.is_among number all.now }
+/// Marks a number, where it is one of those that can be marked.
+fn mark(marks: &mut Vec<bool>, number: usize)
+    ensures { marks.new.items ≡ slice_set marks.old.items number true }
 {
-    'all: for n in all {
-        if *n as usize == number {
-            return true;
-        }
+    if number < marks.len() {
+        marks[number] = true;
     }
-    false
+}
+
+/// Of so many numbers, from 0, which are in a list.
+fn marks_of(alloc: Global, count: usize, numbers: &[u32]) -> Result<Vec<bool>, OutOfMemory>
+    ensures { IfOk result (λ marks. marks.items ≡ spec.marked 0 numbers.now (replicate count false)) }
+{
+    let mut marks = vec![in alloc; false; count]?;
+    'numbers: for number in numbers {
+        mark(&mut marks, *number as usize);
+    }
+    Ok(marks)
+}
+
+/// Whether a number is marked.
+fn is_marked(marks: &[bool], number: usize) -> bool
+    ensures { result ≡ slice_index_or marks.now number false }
+{
+    match marks.get(number) {
+        Some(mark) => *mark,
+        None => false,
+    }
 }
 
 /// The variables of these types in order, of which `&` is applied to those of the taken numbers.
+#[tactic(auto, using(crate::proofs::Marking::mark_of))]
 pub fn variables_of(
     alloc: Global,
     taken: &[u32],
@@ -75,10 +95,11 @@ pub fn variables_of(
 ) -> Result<Items<BodyVariable>, OutOfMemory>
     ensures { IfOk result (λ all. all ≡ spec.variables_from 0 taken.now kinds.now) }
 {
+    let marks = marks_of(alloc, kinds.len(), taken)?;
     let mut all = Items::new(alloc);
     'kinds: for (number, kind) in kinds.iter().enumerate() {
         let kind = kind.copy(alloc)?;
-        let taken = is_among(number, taken);
+        let taken = is_marked(marks.as_slice(), number);
         all.push(BodyVariable { kind, taken })?;
     }
     Ok(all)

@@ -11,7 +11,7 @@ use crate::reading::refused;
 use crate::state::{Body, BodyVariable, State};
 use crate::statements::read_maybe_stmt;
 use crate::waits::of_stmt;
-use c_check_rules::Type;
+use c_check_rules::{NamedItems, Type};
 use c_check_typing::{CheckFault, CheckKind};
 use c_tree::{Base, Decl, Stmt};
 use mx_base::{IntKind, OutOfMemory, Place};
@@ -120,7 +120,7 @@ fn judge_function(
 fn enter_function(alloc: Global, state: &mut State, kind: Type)
     ensures { state.new ≡ spec.enter_function (Some kind) state.old }
 {
-    state.scope.locals = Items::new(alloc);
+    state.scope.locals = NamedItems::new(alloc);
     state.scope.from = 0;
     state.scope.made = Items::new(alloc);
     state.scope.result = kind;
@@ -152,7 +152,7 @@ fn note_body(
 fn leave_function(alloc: Global, state: &mut State)
     ensures { state.new ≡ spec.without_names state.old }
 {
-    state.scope.locals = Items::new(alloc);
+    state.scope.locals = NamedItems::new(alloc);
     state.scope.from = 0;
     state.scope.made = Items::new(alloc);
     state.scope.result = Type::void(alloc);

@@ -9,7 +9,7 @@ use crate::functions::read_function;
 use crate::initialisers::{Filled, read_maybe_init};
 use crate::state::State;
 use crate::structs::read_struct;
-use c_check_rules::{Scope, Type};
+use c_check_rules::{NamedItems, Scope, Type};
 use c_check_typing::{CheckFault, Literals, Notes};
 use c_tree::{Decl, Init, Item, ItemKind};
 use sqlite_items::Items;
@@ -67,10 +67,10 @@ pub fn start_state(alloc: Global) -> State
 {
     State {
         scope: Scope {
-            structs: Items::new(alloc),
-            variables: Items::new(alloc),
-            functions: Items::new(alloc),
-            locals: Items::new(alloc),
+            structs: NamedItems::new(alloc),
+            variables: NamedItems::new(alloc),
+            functions: NamedItems::new(alloc),
+            locals: NamedItems::new(alloc),
             from: 0,
             made: Items::new(alloc),
             result: Type::void(alloc),

@@ -10,11 +10,13 @@ use crate::decls::declare_local;
 use crate::initialisers::{Filled, read_maybe_init};
 use crate::reading::{read_effect, read_maybe, read_value, refused, refused_if};
 use crate::state::State;
-use c_check_rules::{Local, StructInfo, Type, converts, is_scalar, is_void, scalars_in};
+use c_check_rules::{
+    Local, NamedItems, StructInfo, Type, converts, is_scalar, is_void, scalars_in,
+};
 use c_check_typing::{CheckFault, CheckKind, Typed};
 use c_tree::{Decl, Expr, Init, Stmt, StmtKind};
 use mx_base::Place;
-use sqlite_items::{Boxed, Items};
+use sqlite_items::Boxed;
 use std::alloc::Global;
 
 // ---- conditions, `return` and initialised locals
@@ -92,7 +94,7 @@ fn read_local(
 // ---- blocks and loops
 
 /// Lets the locals behind the first so many go.
-fn forget(locals: &mut Items<Local>, count: usize)
+fn forget(locals: &mut NamedItems<Local>, count: usize)
     ensures { locals.new ≡ take count locals.old }
 {
     'locals: while locals.len() > count {

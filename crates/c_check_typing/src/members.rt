@@ -58,7 +58,7 @@ fn member_of(
     ensures { IfOk result (λ t. t ≡ named_in (rule.members_in (option_copied info.entry)) name.now) }
 {
     match info {
-        Some(info) => member_named(alloc, info.members.as_slice(), name),
+        Some(info) => member_named(alloc, &info.members, name),
         None => Ok(None),
     }
 }

@@ -1,4 +1,4 @@
-use Rattle.std.proofs.Common.{ℕ, List, refl, ap, ◌∙◌, rules}
+use Rattle.std.proofs.Common.{ℕ, List, ap, ◌∙◌, rules}
 use Rattle.std.specs.Prelude.{Option}
 use Rattle.c_types.specs.Types.{CType}
 use Rattle.c_check_statements.specs.Declarations.{global_twice, is_main}

@@ -1,6 +1,5 @@
 use Rattle.std.proofs.Common.{ℕ, List, Bool, ap, ◌∙◌, rules}
 use Rattle.std.specs.Prelude.{Some}
-use Rattle.c_check_statements.specs.declared.state.State.{State}
 use Rattle.c_check_statements.specs.Declarations.{function_declared, function_number}
 use Rattle.c_check_statements.specs.Functions.{enter_function, function_inner, leave_function, with_body, without_names}
 use Rattle.c_check_statements.proofs.Steps.{declared_by, declared_stops, declared_ends, inside_ends, inside_stops}

@@ -1,4 +1,4 @@
-use Rattle.std.proofs.Common.{refl, rules}
+use Rattle.std.proofs.Common.{rules}
 use Rattle.c_check_statements.proofs.Filling.{filling_stops, filling_ends}
 use Rattle.c_check_statements.proofs.initialisers.read_filling.Goals as goal
 

@@ -1,4 +1,4 @@
-use Rattle.std.proofs.Common.{refl, rules}
+use Rattle.std.proofs.Common.{rules}
 use Rattle.c_check_statements.specs.Sources.{item}
 use Rattle.c_check_statements.proofs.Steps.{list_stops, list_goes, list_ends}
 use Rattle.c_check_statements.proofs.items.read_items.Goals as goal

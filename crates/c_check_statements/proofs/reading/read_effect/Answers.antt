@@ -1,4 +1,4 @@
-use Rattle.std.proofs.Common.{refl, rules}
+use Rattle.std.proofs.Common.{rules}
 use Rattle.c_check_statements.proofs.Steps.{walks_as, value_stops, value_ends}
 use Rattle.c_check_statements.proofs.reading.read_effect.Goals as goal
 

@@ -1,9 +1,7 @@
-use Rattle.std.proofs.Common.{◌≡◌, refl, sym, subst, rules, Bool, false, map}
-use Rattle.std.specs.Prelude.{None, Some}
-use Rattle.c_check_statements.specs.declared.state.State.{State}
+use Rattle.std.proofs.Common.{refl, rules, map}
 use Rattle.c_check_statements.specs.Walks.{stay, walk_all}
-use Rattle.c_check_statements.specs.Statements.{statement, test_kinds, enter_block, leave_block, enter_loop, leave_loop}
-use Rattle.c_check_statements.proofs.Steps.{then_stops, then_ends, value_stops, value_ends, value_is, node_of, node_ends, list_stops, list_goes, list_ends, inside_ends, inside_stops}
+use Rattle.c_check_statements.specs.Statements.{statement, test_kinds, enter_loop, leave_loop}
+use Rattle.c_check_statements.proofs.Steps.{then_stops, then_ends, value_stops, value_ends, value_is, node_of, node_ends, list_stops, list_goes, inside_ends, inside_stops}
 use Rattle.c_check_statements.proofs.Forms.{walks_by, if_form, while_form, do_form, for_form, break_form, continue_form}
 use Rattle.c_check_statements.proofs.Blocks.{stay_ends, then_nothing, block_stops, block_ends, for_as}
 use Rattle.c_check_statements.proofs.statements.+statements.Goals as goal

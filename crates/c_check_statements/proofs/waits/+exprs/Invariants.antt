@@ -1,5 +1,5 @@
-use Rattle.std.proofs.Common.{◌≡◌, ◌+◌, ◌-◌, ◌^◌, min, max, map, drop}
-use Rattle.c_check_statements.specs.Waits.{most, waits_from, waits, waits_init, waits_stmt}
+use Rattle.std.proofs.Common.{◌≡◌, ◌-◌, ◌^◌, min, max, map, drop}
+use Rattle.c_check_statements.specs.Waits.{waits_from, waits}
 use Rattle.c_check_statements.proofs.waits.+exprs.Given as goal
 
 abbrev pub invariant-of_args-each : goal.invariant-of_args-each

@@ -1,5 +1,5 @@
-use Rattle.std.proofs.Common.{◌≡◌, ◌+◌, ◌-◌, ◌^◌, min, max, map, drop}
-use Rattle.c_check_statements.specs.Waits.{most, waits_from, waits, waits_init, waits_stmt}
+use Rattle.std.proofs.Common.{◌≡◌, ◌-◌, ◌^◌, min, max, map, drop}
+use Rattle.c_check_statements.specs.Waits.{most, waits}
 use Rattle.c_check_statements.proofs.waits.of_exprs.Given as goal
 
 abbrev pub invariant-each : goal.invariant-each
