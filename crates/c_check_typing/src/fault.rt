@@ -52,25 +52,35 @@ pub enum CheckFault {
 }
 
 impl fmt::Display for CheckKind {
+    ghost use Rattle.std.specs.Prelude.{Some};
+    ghost use Rattle.c_check_typing.specs.FaultText.{kind_text};
+
+    ghost output = { λ kind. Some (kind_text kind) };
+
     fn fmt<W: fmt::Write>(&self, f: &mut fmt::Formatter<W>) -> fmt::Result {
-        f.write_str(match self {
-            CheckKind::TooLarge => "TooLarge",
-            CheckKind::Unknown => "Unknown",
-            CheckKind::Twice => "Twice",
-            CheckKind::BadType => "BadType",
-            CheckKind::BadCount => "BadCount",
-            CheckKind::NotPlace => "NotPlace",
-            CheckKind::NotConst => "NotConst",
-            CheckKind::ManyPointers => "ManyPointers",
-            CheckKind::ManyParams => "ManyParams",
-            CheckKind::LargeCopy => "LargeCopy",
-            CheckKind::FrameLarge => "FrameLarge",
-            CheckKind::LargeData => "LargeData",
-        })
+        match self {
+            CheckKind::TooLarge => f.write_str("TooLarge"),
+            CheckKind::Unknown => f.write_str("Unknown"),
+            CheckKind::Twice => f.write_str("Twice"),
+            CheckKind::BadType => f.write_str("BadType"),
+            CheckKind::BadCount => f.write_str("BadCount"),
+            CheckKind::NotPlace => f.write_str("NotPlace"),
+            CheckKind::NotConst => f.write_str("NotConst"),
+            CheckKind::ManyPointers => f.write_str("ManyPointers"),
+            CheckKind::ManyParams => f.write_str("ManyParams"),
+            CheckKind::LargeCopy => f.write_str("LargeCopy"),
+            CheckKind::FrameLarge => f.write_str("FrameLarge"),
+            CheckKind::LargeData => f.write_str("LargeData"),
+        }
     }
 }
 
 impl fmt::Display for CheckFault {
+    ghost use Rattle.std.specs.Prelude.{Some};
+    ghost use Rattle.c_check_typing.specs.FaultText.{text_of};
+
+    ghost output = { λ fault. Some (text_of fault) };
+
     fn fmt<W: fmt::Write>(&self, f: &mut fmt::Formatter<W>) -> fmt::Result {
         match self {
             CheckFault::Refused { kind, place } => {

@@ -5,3 +5,4 @@ pub mod EarlyReading
 pub mod Pieces
 pub mod Refusals
 pub mod Spelling
+pub mod FaultText

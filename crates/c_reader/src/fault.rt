@@ -17,19 +17,26 @@ pub enum ReadFault {
 }
 
 impl fmt::Display for ReadFault {
+    ghost use Rattle.std.specs.Prelude.{Some};
+    ghost use Rattle.c_reader.specs.FaultText.{text_of};
+
+    ghost output = { λ fault. Some (text_of fault) };
+
     fn fmt<W: fmt::Write>(&self, f: &mut fmt::Formatter<W>) -> fmt::Result {
         match self {
-            ReadFault::Expected(place) => write_at(f, "Expected", place),
-            ReadFault::Deep(place) => write_at(f, "Deep", place),
+            ReadFault::Expected(place) => {
+                let line = place.line;
+                let col = place.col;
+                write!(f, "Expected {line}:{col}")
+            }
+            ReadFault::Deep(place) => {
+                let line = place.line;
+                let col = place.col;
+                write!(f, "Deep {line}:{col}")
+            }
             ReadFault::OutOfMemory => f.write_str("no memory"),
         }
     }
-}
-
-fn write_at<W: fmt::Write>(f: &mut fmt::Formatter<W>, kind: &str, place: &Place) -> fmt::Result {
-    let line = place.line;
-    let col = place.col;
-    write!(f, "{kind} {line}:{col}")
 }
 
 impl Error for ReadFault {}
