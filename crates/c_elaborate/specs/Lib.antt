@@ -1,0 +1,4 @@
+pub mod Found
+pub mod Sizes
+pub mod Source
+pub mod Values
