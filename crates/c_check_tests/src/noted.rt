@@ -35,6 +35,13 @@ fn literals(alloc: Global, notes: &Notes) -> Result<String, AllocError> {
     Ok(shown)
 }
 
+/// The constants, a `|` and the literals.
+fn shown(alloc: Global, notes: &Notes) -> Result<String, AllocError> {
+    let words = constants(alloc, notes)?;
+    let texts = literals(alloc, notes)?;
+    format!(in alloc; "{words}|{texts}")
+}
+
 /// The constants, a `|` and the literals of a source, or its first refusal.
 fn noted(alloc: Global, source: &str) -> Result<String, AllocError> {
     let bytes = source.as_bytes();
@@ -56,11 +63,7 @@ fn checked(alloc: Global, found: &[Token], bytes: &[u8]) -> Result<String, Alloc
         Err(fault) => return format!(in alloc; "{fault}"),
     };
     match read_source(alloc, &tree, 32_768) {
-        Ok(state) => {
-            let words = constants(alloc, &state.notes)?;
-            let texts = literals(alloc, &state.notes)?;
-            format!(in alloc; "{words}|{texts}")
-        }
+        Ok(state) => shown(alloc, &state.notes),
         Err(fault) => format!(in alloc; "{fault}"),
     }
 }
