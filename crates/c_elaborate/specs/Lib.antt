@@ -1,4 +1,0 @@
-pub mod Found
-pub mod Sizes
-pub mod Source
-pub mod Values
