@@ -8,4 +8,5 @@ pub mod RegionsLemmas
 pub mod MemoryLemmas
 pub mod EdgeValues
 pub mod HeapOrder
+pub mod GuestLemmas
 pub mod BoundsLemmas

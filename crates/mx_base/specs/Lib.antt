@@ -18,5 +18,6 @@ pub mod BoundsStore
 pub mod Walk
 pub mod Heap
 pub mod Services
+pub mod Guests
 pub mod StopOfC
 pub mod World

@@ -1,9 +1,12 @@
 //! Laws of the definitions in `specs/`. Each function does nothing, and its contract is the law.
-ghost use Rattle.std.specs.Prelude.{◌≡◌, ℕ, ◌+◌, ◌%◌, ◌^◌, ◌<◌, ◌≤◌, true, false, Some, List, length};
+ghost use Rattle.std.specs.Prelude.{◌≡◌, ℕ, ◌+◌, ◌%◌, ◌^◌, ◌<◌, ◌≤◌, true, false, Option, Some, List, length};
 ghost use Rattle.mx_base.specs.declared.limits.Bounds.{Bounds as BoundsPair};
 ghost use Rattle.mx_base.specs.Regions.{is_executable, is_writable, is_sealed, is_open_to_read, is_open_to_write};
 ghost use Rattle.mx_base.specs.Memory.{Bytes, number_at, with_number, list_at, with_list};
 ghost use Rattle.mx_base.specs.BoundsStore.{BoundsStore, StoreCall, store_after, load_bounds, bounds_for, last_kept, granule};
+ghost use Rattle.mx_base.specs.Bounds.{addresses};
+ghost use Rattle.mx_base.specs.Services.{Service, Guest, guest_with, served};
+ghost use Rattle.mx_base.specs.Guests.{InputFits, GuestFits, AnswerFits};
 ghost use Rattle.mx_base.specs.Heap.{HeapCall, heap_after, InOrder, NeverOverlap, LieInHeap, OwnsEachByteOnce};
 
 /// No address can be both executed and written: code stays as it was placed.
@@ -51,4 +54,11 @@ pub fn heap_lists_stay_in_order()
     ensures free { (calls : List HeapCall) → InOrder 1 0 (heap_after calls).free }
     ensures live { (calls : List HeapCall) → InOrder 0 0 (heap_after calls).live }
     ensures few { (calls : List HeapCall) → length (heap_after calls).free ≤ length (heap_after calls).live + 1 }
+{}
+
+/// Where the input left is bytes and the ranges of the heap lie in its region, a service that is asked with words answers a
+/// word and leaves the guest so; and a guest begins so with an input of bytes.
+pub fn services_keep_the_guest_fit<R>()
+    ensures begins { (input : List ℕ) → InputFits input → GuestFits (guest_with input) }
+    ensures stays { (service : Service) (m : Bytes) (refused : ℕ → ℕ → Option R) (rdi rsi rdx : ℕ) (g : Guest) → GuestFits g → rdx < addresses → AnswerFits (served m refused service rdi rsi rdx g) }
 {}

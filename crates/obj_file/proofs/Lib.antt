@@ -4,6 +4,7 @@ pub mod ImageLaws
 pub mod AsciiNames
 pub mod ObjectLaws
 pub mod RunLaws
+pub mod FinalLaws
 pub mod StoredPlaces
 pub mod StoredBytes
 pub mod StoredTouched

@@ -10,4 +10,5 @@ pub mod Runs
 pub mod Loaded
 pub mod Stored
 pub mod StoreLaw
+pub mod Finals
 pub mod ExamplesOfStore

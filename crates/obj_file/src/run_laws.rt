@@ -29,3 +29,13 @@ pub fn runs_go_on<X>()
 pub fn stopped_runs_stay_so<X>()
     ensures { (g : Ground X) (turns extra : ℕ) (s last : State X) (why : MachineStop) → run_of g turns s ≡ Stopped why last → run_of g (turns + extra) s ≡ Stopped why last }
 {}
+
+/// The law that a run is clean exactly where it leaves the directory and the tables to walks and servings.
+pub fn clean_runs_stay_out<X>()
+    ensures { (g : Ground X) (turns : ℕ) (s : State X) → clean_of g turns s ≡ true ↔ RunStaysOut g turns s }
+{}
+
+/// A run with its accesses for C, and whether it is clean, is its first event and the run from there.
+pub fn finals_are_their_first_event_and_the_rest<X>()
+    ensures { (g : Ground X) (m : Moment X) → final g m ≡ final_after g m (event g m.state) }
+{}
