@@ -145,10 +145,10 @@ module _ (private : ℕ) (sorts : ℕ → Bool) (symbols : Symbols) (names : Nam
       let rest3 = s.Judge d size (d + 1) true to_place ∷ copied_all scalars d in
       let rest2 = s.Extend d d U64 ∷ rest3 in
       let rest1 = s.Judge (d + 2) size (d + 2 + 1) false from_place ∷ rest2 in
-      on_step private sorts symbols Anything ((judge size from_place (part 0 p) >> (judge size to_place (part 0 q) >> copies)) (beside private sorts numbers pairs log w)) (s.Extend (d + 2) (d + 2) U64) rest1 w w1 (read_number _ got.0 ∙ ap (λ n. On Next (with_number (d + 2) n w)) (word-word p.address))
-      (judge_follows private sorts symbols Anything size from_place (part 0 p) (judge size to_place (part 0 q) >> copies) (d + 2) (d + 2 + 1) false rest2 (beside private sorts numbers pairs log w1) w1 refl (here (d + 2) (Number y) w.values) (over private sorts symbols (d + 2 + 1) (d + 2) (Number y) (Pair p.rooted.bounds) w (omega arith) got.1)
-      (on_step private sorts symbols Anything ((judge size to_place (part 0 q) >> copies) (beside private sorts numbers pairs log w1)) (s.Extend d d U64) rest3 w1 w2 (read_number _ (under private sorts symbols d (d + 2) (Number y) (Number q.address) w (omega arith) wd) ∙ ap (λ n. On Next (with_number d n w1)) (word-word q.address))
-      (judge_follows private sorts symbols Anything size to_place (part 0 q) copies d (d + 1) true (copied_all scalars d) (beside private sorts numbers pairs log w2) w2 refl (here d (Number x) w1.values) (over private sorts symbols (d + 1) d (Number x) (Pair q.rooted.bounds) w1 (omega arith) (under private sorts symbols (d + 1) (d + 2) (Number y) (Pair q.rooted.bounds) w (omega arith) wb))
+      on_step private sorts symbols Anything ((judge false size from_place (part 0 p) >> (judge true size to_place (part 0 q) >> copies)) (beside private sorts numbers pairs log w)) (s.Extend (d + 2) (d + 2) U64) rest1 w w1 (read_number _ got.0 ∙ ap (λ n. On Next (with_number (d + 2) n w)) (word-word p.address))
+      (judge_follows private sorts symbols Anything false size from_place (part 0 p) (judge true size to_place (part 0 q) >> copies) (d + 2) (d + 2 + 1) rest2 (beside private sorts numbers pairs log w1) w1 refl (here (d + 2) (Number y) w.values) (over private sorts symbols (d + 2 + 1) (d + 2) (Number y) (Pair p.rooted.bounds) w (omega arith) got.1)
+      (on_step private sorts symbols Anything ((judge true size to_place (part 0 q) >> copies) (beside private sorts numbers pairs log w1)) (s.Extend d d U64) rest3 w1 w2 (read_number _ (under private sorts symbols d (d + 2) (Number y) (Number q.address) w (omega arith) wd) ∙ ap (λ n. On Next (with_number d n w1)) (word-word q.address))
+      (judge_follows private sorts symbols Anything true size to_place (part 0 q) copies d (d + 1) (copied_all scalars d) (beside private sorts numbers pairs log w2) w2 refl (here d (Number x) w1.values) (over private sorts symbols (d + 1) d (Number x) (Pair q.rooted.bounds) w1 (omega arith) (under private sorts symbols (d + 1) (d + 2) (Number y) (Pair q.rooted.bounds) w (omega arith) wb))
       (weaken private sorts symbols (Places q p) Anything _ _ (scalars_run scalars q p numbers pairs log w2 (agree_on private sorts numbers pairs d (Number x) w1 above (agree_on private sorts numbers pairs (d + 2) (Number y) w e2 a)) (here d (Number x) w1.values, over private sorts symbols (d + 2) d (Number x) (Number y) w1 (omega arith) (here (d + 2) (Number y) w.values)))
       (λ i z at. tt)))))))
 

@@ -55,7 +55,7 @@ module _ (private : ℕ) (sorts : ℕ → Bool) where
             (λ p numbers pairs log u a at.
             let n = extended kind (number_at (size_of kind) u.world.bytes p.address) in
             let after = with_world (read_noted (size_of kind) u.world p.address) u in
-            judge_follows private sorts symbols (NumberIn private sorts d t) (size_of kind) place p (allow false (size_of kind) p >> source_read kind p) d (d + 1) false (s.Load d d kind ∷ []) (beside private sorts numbers pairs log u) u refl at.0 at.1
+            judge_follows private sorts symbols (NumberIn private sorts d t) false (size_of kind) place p (allow false (size_of kind) p >> source_read kind p) d (d + 1) (s.Load d d kind ∷ []) (beside private sorts numbers pairs log u) u refl at.0 at.1
             (allow_follows private sorts symbols (NumberIn private sorts d t) false (size_of kind) p (source_read kind p) (s.Load d d kind) [] (beside private sorts numbers pairs log u) u (number_loaded p.address d kind u) refl (read_number _ at.0)
             (with_number d n after, refl, refl, agree_on private sorts numbers pairs d (Number n) after above a, (here d (Number n) u.values, stay_on private sorts d t after d (Number n) (omega arith) at.2))))
         runs (Store kind place p e) d l above fit numbers pairs log t a = and_on private sorts symbols (PointerIn private sorts d t) (NumberIn private sorts d t) _ (code_ptr p d l) _ t _ (runs_ptr p d l above fit.0 numbers pairs log t a)
@@ -113,7 +113,7 @@ module _ (private : ℕ) (sorts : ℕ → Bool) where
             (finish_pair private sorts symbols d t numbers pairs log (s.Copy (d + 1) (x + 1)) copied record { address = numbers x; rooted = pairs (x + 1) } t.world above (agree_on private sorts numbers pairs d (Number (numbers x)) t above a) (stay_on private sorts d t t d (Number (numbers x)) (omega arith) (λ v p q. refl)) (here d (Number (numbers x)) t.values)
             (read_held_pair _ (there (x + 1) d (Number (numbers x)) t.values other ∙ a (x + 1) fit.0 ∙ home_pair private sorts symbols numbers pairs (x + 1) fit.2)))
         runs_ptr (LoadPtr place e) d l above fit numbers pairs log t a = and_on private sorts symbols (PointerIn private sorts d t) (PointerIn private sorts d t) _ (code_ptr e d l) _ t _ (runs_ptr e d l above fit numbers pairs log t a)
-            (λ p numbers pairs log u a at. judge_follows private sorts symbols (PointerIn private sorts d t) 8 place p (allow false 8 p >> read_pointer p) d (d + 1) false (s.LoadPtr d d (d + 1) ∷ []) (beside private sorts numbers pairs log u) u refl at.0 at.1
+            (λ p numbers pairs log u a at. judge_follows private sorts symbols (PointerIn private sorts d t) false 8 place p (allow false 8 p >> read_pointer p) d (d + 1) (s.LoadPtr d d (d + 1) ∷ []) (beside private sorts numbers pairs log u) u refl at.0 at.1
             (allow_follows private sorts symbols (PointerIn private sorts d t) false 8 p (read_pointer p) (s.LoadPtr d d (d + 1)) [] (beside private sorts numbers pairs log u) u (pointer_came d (d + 1) (pointer_read u.world p.address) u) refl (read_number _ at.0)
             (finish_came private sorts symbols d t p (pointer_read u.world p.address) _ u above a at.2)))
         runs_ptr (CopyBounds e f) d l above fit numbers pairs log t a = and_on private sorts symbols (PointerIn private sorts d t) (PointerIn private sorts d t) _ (code_ptr e d l) _ t _ (runs_ptr e d l above fit.0 numbers pairs log t a)

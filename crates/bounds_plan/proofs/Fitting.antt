@@ -5,6 +5,8 @@ use Rattle.mx_base.specs.declared.numbers.IntKind.{IntKind}
 use Rattle.mx_base.specs.declared.numbers.IntKind.TheVariants.{I32, I64, U64}
 use Rattle.mx_base.specs.declared.places.Place.{Place}
 use Rattle.mx_base.specs.Operators.{Arithmetic, Times, Over, Rest, Plus, Minus, Left, Right, BitAnd, BitXor, BitOr, Comparison, arithmetic_at, comparison_at}
+use Rattle.narrowing.specs.declared.member.Rule.{Rule}
+use Rattle.narrowing.specs.declared.member.Rule.TheVariants.{Keep, Meet}
 use Rattle.c_tree.specs.declared.tree.ExprKind.{ExprKind-F}
 use Rattle.c_tree.specs.declared.tree.ExprKind.TheOpen as e
 use Rattle.c_tree.specs.declared.tree.Expr.{Expr}
@@ -15,8 +17,8 @@ use Rattle.bounds_plan.specs.ElaborateTypes.{Value, Numeric, Address, number_in,
 use Rattle.c_check_rules.specs.declared.predeclared.Bind.{Bind}
 use Rattle.c_check_rules.specs.declared.predeclared.Bind.TheVariants.{Global, Local, Fun, Service, Builtin}
 use Rattle.bounds_plan.specs.ElaborateSource.{Reached, Signature, Around, kind_at, bind_at}
-use Rattle.bounds_plan.specs.ElaboratePlaces.{Lvalue, NumberVariable, PointerVariable, InMemory, address_in, loaded_as, read_as, stored_as, written_as, changed_at, changed_as, variable_of}
-use Rattle.bounds_plan.specs.ElaborateExpressions.{Found, Reading, effect_of, no_place, a_place, symbol_of, named, promoted_number, negative, inverse, is_zero, unary, calculated, arithmetic, compared, binary_as, binary, chosen_as, assigned, struct_copied, assignment_effect, compound_at, changed, assign_by, stepped_by, find_all, with_argument, arguments_for, called_as, argument_at, number_of_argument, pointer_of_argument, served, built_in, function_called, called, member, arrow, index, step, expression}
+use Rattle.bounds_plan.specs.ElaboratePlaces.{Lvalue, NumberVariable, PointerVariable, InMemory, address_in, loaded_as, read_as, stored_as, written_as, changed_at, changed_as, variable_of, under_rule}
+use Rattle.bounds_plan.specs.ElaborateExpressions.{Found, Reading, effect_of, no_place, a_place, symbol_of, named, promoted_number, negative, inverse, is_zero, unary, calculated, arithmetic, compared, binary_as, binary, chosen_as, assigned, struct_copied, assignment_effect, compound_at, changed, assign_by, stepped_by, find_all, with_argument, arguments_for, called_as, argument_at, number_of_argument, pointer_of_argument, served, built_in, function_called, called, member, arrow, index_rule, index, step, expression}
 use Rattle.c_tree.proofs.Inductions.{ExprA, ExprB, bare_exprs, every_exprs}
 
 module _ (private : ℕ) (is_bounds : ℕ → Bool) (takes : ℕ → ℕ) where
@@ -298,6 +300,15 @@ module _ (private : ℕ) (is_bounds : ℕ → Bool) (takes : ℕ → ℕ) where
   called_fits around ready type (Global number) all h = tt
   called_fits around ready type (Local number) all h = tt
 
+  -- ---- elements
+
+  rule_fits : (rule : Rule) (p : PointerExpr) → FitsPtr private is_bounds takes p → FitsPtr private is_bounds takes (under_rule rule p)
+  rule_fits Keep p h = h
+  rule_fits (Meet offset size) p h = h
+
+  index_fits : (around : Around) (type : CType) (a i : Found) → FitsFound a → FitsFound i → FitsPlace (index around type a i)
+  index_fits around type a i h k = rule_fits (index_rule around type a) _ (pointer_fits a.value h.value, number_fits i.value k.value)
+
   -- ---- expressions
   abbrev bare : ExprKind-F (ExprA (Place → Reading) Reading step (λ x. x.kind x.place) GoodAt Good) (ExprB (Place → Reading) Reading step (λ x. x.kind x.place) GoodAt Good) → ExprKind-F (Place → Reading) Reading
   bare = bare_exprs (Place → Reading) Reading step (λ x. x.kind x.place) GoodAt Good
@@ -316,7 +327,7 @@ module _ (private : ℕ) (is_bounds : ℕ → Bool) (takes : ℕ → ℕ) where
   step_fits (e.Call name all) place around ready r = let xs = find_all (map (λ y. y.0) all) around r in
       no_place_fits (kind_at around xs.after) (called around (kind_at around xs.after) (bind_at around xs.after) xs.all) place _ (called_fits around ready (kind_at around xs.after) (bind_at around xs.after) xs.all (found_all_fit all around ready r))
   step_fits (e.Index a i) place around ready r = let x = a.0 around r in let y = i.0 around x.after in
-      a_place_fits (kind_at around y.after) (index around (kind_at around y.after) x y) place _ (pointer_fits x.value (a.1 around ready r).value, number_fits y.value (i.1 around ready x.after).value)
+      a_place_fits (kind_at around y.after) (index around (kind_at around y.after) x y) place _ (index_fits around (kind_at around y.after) x y (a.1 around ready r) (i.1 around ready x.after))
   step_fits (e.Member a name) place around ready r = let x = a.0 around r in a_place_fits (kind_at around x.after) (member around (kind_at around x.after) x name) place _ (pointer_fits x.value (a.1 around ready r).value)
   step_fits (e.Arrow a name) place around ready r = let x = a.0 around r in a_place_fits (kind_at around x.after) (arrow around (kind_at around x.after) x name) place _ (pointer_fits x.value (a.1 around ready r).value)
   step_fits (e.Cast base stars a) place around ready r = let x = a.0 around r in no_place_fits (kind_at around x.after) _ place _ (cast_fits (sort_of (kind_at around x.after)) x.type x.value (a.1 around ready r).value)

@@ -5,6 +5,8 @@ use Rattle.mx_base.specs.declared.numbers.IntKind.{IntKind}
 use Rattle.mx_base.specs.declared.numbers.IntKind.TheVariants.{I32, I64, U64}
 use Rattle.mx_base.specs.declared.places.Place.{Place}
 use Rattle.mx_base.specs.Operators.{Arithmetic, Times, Over, Rest, Plus, Minus, Left, Right, BitAnd, BitXor, BitOr, Comparison, arithmetic_at, comparison_at}
+use Rattle.narrowing.specs.declared.member.Rule.{Rule}
+use Rattle.narrowing.specs.declared.member.Rule.TheVariants.{Keep, Meet}
 use Rattle.c_tree.specs.declared.tree.ExprKind.{ExprKind-F}
 use Rattle.c_tree.specs.declared.tree.ExprKind.TheOpen as e
 use Rattle.c_tree.specs.declared.tree.Expr.{Expr}
@@ -15,8 +17,8 @@ use Rattle.bounds_plan.specs.ElaborateTypes.{Value, Numeric, Address, number_in,
 use Rattle.c_check_rules.specs.declared.predeclared.Bind.{Bind}
 use Rattle.c_check_rules.specs.declared.predeclared.Bind.TheVariants.{Global, Local, Fun, Service, Builtin}
 use Rattle.bounds_plan.specs.ElaborateSource.{Reached, Signature, Around, kind_at, bind_at}
-use Rattle.bounds_plan.specs.ElaboratePlaces.{Lvalue, NumberVariable, PointerVariable, InMemory, address_in, loaded_as, read_as, stored_as, written_as, changed_at, changed_as, variable_of}
-use Rattle.bounds_plan.specs.ElaborateExpressions.{Found, Reading, effect_of, no_place, a_place, symbol_of, named, promoted_number, negative, inverse, is_zero, unary, calculated, arithmetic, compared, binary_as, binary, chosen_as, assigned, struct_copied, assignment_effect, compound_at, changed, assign_by, stepped_by, find_all, with_argument, arguments_for, called_as, argument_at, number_of_argument, pointer_of_argument, served, built_in, function_called, called, member, arrow, index, step, expression}
+use Rattle.bounds_plan.specs.ElaboratePlaces.{Lvalue, NumberVariable, PointerVariable, InMemory, address_in, loaded_as, read_as, stored_as, written_as, changed_at, changed_as, variable_of, under_rule}
+use Rattle.bounds_plan.specs.ElaborateExpressions.{Found, Reading, effect_of, no_place, a_place, symbol_of, named, promoted_number, negative, inverse, is_zero, unary, calculated, arithmetic, compared, binary_as, binary, chosen_as, assigned, struct_copied, assignment_effect, compound_at, changed, assign_by, stepped_by, find_all, with_argument, arguments_for, called_as, argument_at, number_of_argument, pointer_of_argument, served, built_in, function_called, called, member, arrow, index_rule, index, step, expression}
 use Rattle.c_tree.proofs.Inductions.{ExprA, ExprB, bare_exprs, every_exprs}
 
 module _ (S : ℕ → ℕ → ℕ → Type 0) (F : ℕ → ℕ → Type 0) (P : ℕ → Type 0) where
@@ -290,6 +292,15 @@ module _ (S : ℕ → ℕ → ℕ → Type 0) (F : ℕ → ℕ → Type 0) (P : 
   called_names around ready type (Global number) all h = tt
   called_names around ready type (Local number) all h = tt
 
+  -- ---- elements
+
+  rule_names : (rule : Rule) (p : PointerExpr) → NamesPtr S F P p → NamesPtr S F P (under_rule rule p)
+  rule_names Keep p h = h
+  rule_names (Meet offset size) p h = h
+
+  index_names : (around : Around) (type : CType) (a i : Found) → NamesFound a → NamesFound i → NamesPlace (index around type a i)
+  index_names around type a i h k = rule_names (index_rule around type a) _ (pointer_names a.value h.value, number_names i.value k.value)
+
   -- ---- expressions
   abbrev bare : ExprKind-F (ExprA (Place → Reading) Reading step (λ x. x.kind x.place) GoodAt Good) (ExprB (Place → Reading) Reading step (λ x. x.kind x.place) GoodAt Good) → ExprKind-F (Place → Reading) Reading
   bare = bare_exprs (Place → Reading) Reading step (λ x. x.kind x.place) GoodAt Good
@@ -308,7 +319,7 @@ module _ (S : ℕ → ℕ → ℕ → Type 0) (F : ℕ → ℕ → Type 0) (P : 
   step_names (e.Call name all) place around ready r = let xs = find_all (map (λ y. y.0) all) around r in
       no_place_names (kind_at around xs.after) (called around (kind_at around xs.after) (bind_at around xs.after) xs.all) place _ (called_names around ready (kind_at around xs.after) (bind_at around xs.after) xs.all (found_all_name all around ready r))
   step_names (e.Index a i) place around ready r = let x = a.0 around r in let y = i.0 around x.after in
-      a_place_names (kind_at around y.after) (index around (kind_at around y.after) x y) place _ (pointer_names x.value (a.1 around ready r).value, number_names y.value (i.1 around ready x.after).value)
+      a_place_names (kind_at around y.after) (index around (kind_at around y.after) x y) place _ (index_names around (kind_at around y.after) x y (a.1 around ready r) (i.1 around ready x.after))
   step_names (e.Member a name) place around ready r = let x = a.0 around r in a_place_names (kind_at around x.after) (member around (kind_at around x.after) x name) place _ (pointer_names x.value (a.1 around ready r).value)
   step_names (e.Arrow a name) place around ready r = let x = a.0 around r in a_place_names (kind_at around x.after) (arrow around (kind_at around x.after) x name) place _ (pointer_names x.value (a.1 around ready r).value)
   step_names (e.Cast base stars a) place around ready r = let x = a.0 around r in no_place_names (kind_at around x.after) _ place _ (cast_names (sort_of (kind_at around x.after)) x.type x.value (a.1 around ready r).value)

@@ -112,7 +112,7 @@ module _ (private : ℕ) (sorts : ℕ → Bool) where
         → Sim private sorts (Same w) (store kind place p n (beside private sorts numbers pairs log w)) (pass symbols (s.Judge v (size_of kind) b true place ∷ s.Store v f kind ∷ []) Next w)
     unfolding Same
     stores_number kind place p n v b f numbers pairs log w at_v at_b at_f a =
-        judge_follows private sorts symbols (Same w) (size_of kind) place p (allow true (size_of kind) p >> source_write kind p n) v b true (s.Store v f kind ∷ []) (beside private sorts numbers pairs log w) w refl at_v at_b
+        judge_follows private sorts symbols (Same w) true (size_of kind) place p (allow true (size_of kind) p >> source_write kind p n) v b (s.Store v f kind ∷ []) (beside private sorts numbers pairs log w) w refl at_v at_b
         (allow_follows private sorts symbols (Same w) true (size_of kind) p (source_write kind p n) (s.Store v f kind) [] (beside private sorts numbers pairs log w) w (number_stored p.address n kind w) refl (read_number _ at_v ∙ read_number _ at_f)
         (with_world (number_written (size_of kind) w.world p.address n) w, refl, refl, a, λ v. refl))
 
@@ -124,7 +124,7 @@ module _ (private : ℕ) (sorts : ℕ → Bool) where
     pub stores_pointer : (place : PlaceOf) (p q : Pointer) (v b f g : ℕ) (numbers : ℕ → ℕ) (pairs : ℕ → Rooted) (log : Log) (w : T) → w.values v ≡ Number p.address → w.values b ≡ Pair p.rooted.bounds → w.values f ≡ Number q.address → w.values g ≡ Pair q.rooted.bounds → Agree private sorts numbers pairs w
         → Sim private sorts (Same w) (store_ptr place p q (beside private sorts numbers pairs log w)) (pass symbols (s.Judge v 8 b true place ∷ s.StorePtr v f g ∷ []) Next w)
     stores_pointer place p q v b f g numbers pairs log w at_v at_b at_f at_g a =
-        judge_follows private sorts symbols (Same w) 8 place p (allow true 8 p >> write_pointer p q) v b true (s.StorePtr v f g ∷ []) (beside private sorts numbers pairs log w) w refl at_v at_b
+        judge_follows private sorts symbols (Same w) true 8 place p (allow true 8 p >> write_pointer p q) v b (s.StorePtr v f g ∷ []) (beside private sorts numbers pairs log w) w refl at_v at_b
         (allow_follows private sorts symbols (Same w) true 8 p (write_pointer p q) (s.StorePtr v f g) [] (beside private sorts numbers pairs log w) w (pointer_went (pointer_written w.world p.address q.address q.rooted.bounds) w) refl (read_number _ at_v ∙ read_number _ at_f ∙ read_bounds _ at_g)
         (finish_went p q.rooted.root (pointer_written w.world p.address q.address q.rooted.bounds) _ w a))
 
@@ -269,7 +269,7 @@ module _ (private : ℕ) (sorts : ℕ → Bool) where
     loads_number kind place p v b to numbers pairs log w above at_v at_b a =
         let n = extended kind (number_at (size_of kind) w.world.bytes p.address) in
         let after = with_world (read_noted (size_of kind) w.world p.address) w in
-        judge_follows private sorts symbols (NumberIn private sorts to w) (size_of kind) place p (allow false (size_of kind) p >> source_read kind p) v b false (s.Load v to kind ∷ []) (beside private sorts numbers pairs log w) w refl at_v at_b
+        judge_follows private sorts symbols (NumberIn private sorts to w) false (size_of kind) place p (allow false (size_of kind) p >> source_read kind p) v b (s.Load v to kind ∷ []) (beside private sorts numbers pairs log w) w refl at_v at_b
         (allow_follows private sorts symbols (NumberIn private sorts to w) false (size_of kind) p (source_read kind p) (s.Load v to kind) [] (beside private sorts numbers pairs log w) w (number_loaded p.address to kind w) refl (read_number _ at_v)
         (with_number to n after, refl, refl, agree_on private sorts numbers pairs to (Number n) after above a, (here to (Number n) w.values, stay_on private sorts to w after to (Number n) (omega arith) (λ v p q. refl))))
 
@@ -531,7 +531,7 @@ module _ (private : ℕ) (sorts : ℕ → Bool) where
     pub loads_pointer : (place : PlaceOf) (p : Pointer) (v b to : ℕ) (numbers : ℕ → ℕ) (pairs : ℕ → Rooted) (log : Log) (w : T) → private ≤ to → w.values v ≡ Number p.address → w.values b ≡ Pair p.rooted.bounds → Agree private sorts numbers pairs w
         → Sim private sorts (PointerIn private sorts to w) (load_ptr place p (beside private sorts numbers pairs log w)) (pass symbols (s.Judge v 8 b false place ∷ s.LoadPtr v to (to + 1) ∷ []) Next w)
     loads_pointer place p v b to numbers pairs log w above at_v at_b a =
-        judge_follows private sorts symbols (PointerIn private sorts to w) 8 place p (allow false 8 p >> read_pointer p) v b false (s.LoadPtr v to (to + 1) ∷ []) (beside private sorts numbers pairs log w) w refl at_v at_b
+        judge_follows private sorts symbols (PointerIn private sorts to w) false 8 place p (allow false 8 p >> read_pointer p) v b (s.LoadPtr v to (to + 1) ∷ []) (beside private sorts numbers pairs log w) w refl at_v at_b
         (allow_follows private sorts symbols (PointerIn private sorts to w) false 8 p (read_pointer p) (s.LoadPtr v to (to + 1)) [] (beside private sorts numbers pairs log w) w (pointer_came to (to + 1) (pointer_read w.world p.address) w) refl (read_number _ at_v)
         (finish_came to w p (pointer_read w.world p.address) _ w above a (λ v p q. refl)))
 

@@ -164,23 +164,23 @@ module _ (start : List BoundsPair) (variables : List Framed_variable) (sorts : �
           let gm : LogGrows s.log _ = record { made = g.made; causes = g.causes } in
           (went-on s (with_store t q) _ gm r refl i, gm, tt)
 
-  pub good-judge : {B : Type 0} (P : Log → B → Type 0) (size : ℕ) (place : Place) (p : Pointer) (go : M B) (s : State) → Inv s → From P s (go s) → From P s ((judge size place p >> go) s)
-  good-judge P size place p go s i h = good-unless P (leaves p.rooted.bounds place (leaving_value p.address size p.rooted.bounds)) go s i h
+  pub good-judge : {B : Type 0} (P : Log → B → Type 0) (write : Bool) (size : ℕ) (place : Place) (p : Pointer) (go : M B) (s : State) → Inv s → From P s (go s) → From P s ((judge write size place p >> go) s)
+  good-judge P write size place p go s i h = good-unless P (leaves p.rooted.bounds record { place = place; write = write; size = size } (leaving_value p.address size p.rooted.bounds)) go s i h
 
   pub good-allow : {B : Type 0} (P : Log → B → Type 0) (write : Bool) (size : ℕ) (p : Pointer) (go : M B) (s : State) → Inv s → From P s (go s) → From P s ((allow write size p >> go) s)
   good-allow P write size p go s i h = good-unless P (option_map stop_by (refusal write size p.address)) go s i h
 
   good-load : (kind : IntKind) (place : Place) (p : Pointer) (s : State) → Inv s → Points s.log p → From Numbers s (load kind place p s)
-  good-load kind place p s i h = good-judge Numbers (size_of kind) place p (allow false (size_of kind) p >> read_number kind p) s i (good-allow Numbers false (size_of kind) p (read_number kind p) s i (good-read kind p s i h))
+  good-load kind place p s i h = good-judge Numbers false (size_of kind) place p (allow false (size_of kind) p >> read_number kind p) s i (good-allow Numbers false (size_of kind) p (read_number kind p) s i (good-read kind p s i h))
 
   good-store : (kind : IntKind) (place : Place) (p : Pointer) (n : ℕ) (s : State) → Inv s → Points s.log p → From Units s (store kind place p n s)
-  good-store kind place p n s i h = good-judge Units (size_of kind) place p (allow true (size_of kind) p >> write_number kind p n) s i (good-allow Units true (size_of kind) p (write_number kind p n) s i (good-write kind p n s i h))
+  good-store kind place p n s i h = good-judge Units true (size_of kind) place p (allow true (size_of kind) p >> write_number kind p n) s i (good-allow Units true (size_of kind) p (write_number kind p n) s i (good-write kind p n s i h))
 
   good-load-pointer : (place : Place) (p : Pointer) (s : State) → Inv s → Points s.log p → From Points s (load_ptr place p s)
-  good-load-pointer place p s i h = good-judge Points 8 place p (allow false 8 p >> read_pointer p) s i (good-allow Points false 8 p (read_pointer p) s i (good-read-pointer p s i h))
+  good-load-pointer place p s i h = good-judge Points false 8 place p (allow false 8 p >> read_pointer p) s i (good-allow Points false 8 p (read_pointer p) s i (good-read-pointer p s i h))
 
   good-store-pointer : (place : Place) (p v : Pointer) (s : State) → Inv s → Points s.log p → Points s.log v → From Units s (store_ptr place p v s)
-  good-store-pointer place p v s i h hv = good-judge Units 8 place p (allow true 8 p >> write_pointer p v) s i (good-allow Units true 8 p (write_pointer p v) s i (good-write-pointer p v s i h hv))
+  good-store-pointer place p v s i h hv = good-judge Units true 8 place p (allow true 8 p >> write_pointer p v) s i (good-allow Units true 8 p (write_pointer p v) s i (good-write-pointer p v s i h hv))
 
   -- ---- private pointers
 

@@ -129,10 +129,10 @@ module _ (start : List BoundsPair) (variables : List Framed_variable) (sorts : �
     good-effect (ForNumber e) f s i = then Numbers Units s (number names e s) (λ n. pure tt) (good-number start variables sorts sp names below e f s i) (λ n z i g q. (i, grows-same z.log, tt))
     good-effect (ForPointer e) f s i = then Points Units s (pointer names e s) (λ p. pure tt) (good-pointer start variables sorts sp names below e f s i) (λ p z i g q. (i, grows-same z.log, tt))
     good-effect (CopyStruct size scalars to_place to from_place from) f s i =
-        then Points Units s (pointer names to s) (λ t. pointer names from >>= (λ u. judge size from_place (part 0 u) >> (judge size to_place (part 0 t) >> copy_scalars scalars t u))) (good-pointer start variables sorts sp names below to f.0 s i) (λ t z i g q.
-        then Points Units z (pointer names from z) (λ u. judge size from_place (part 0 u) >> (judge size to_place (part 0 t) >> copy_scalars scalars t u)) (good-pointer start variables sorts sp names below from f.1 z i) (λ u y i g r.
-        good-judge start variables sorts sp Units size from_place (part 0 u) (judge size to_place (part 0 t) >> copy_scalars scalars t u) y i
-        (good-judge start variables sorts sp Units size to_place (part 0 t) (copy_scalars scalars t u) y i (good-scalars scalars t u y i (has-later z.log y.log g t.rooted q) r))))
+        then Points Units s (pointer names to s) (λ t. pointer names from >>= (λ u. judge false size from_place (part 0 u) >> (judge true size to_place (part 0 t) >> copy_scalars scalars t u))) (good-pointer start variables sorts sp names below to f.0 s i) (λ t z i g q.
+        then Points Units z (pointer names from z) (λ u. judge false size from_place (part 0 u) >> (judge true size to_place (part 0 t) >> copy_scalars scalars t u)) (good-pointer start variables sorts sp names below from f.1 z i) (λ u y i g r.
+        good-judge start variables sorts sp Units false size from_place (part 0 u) (judge true size to_place (part 0 t) >> copy_scalars scalars t u) y i
+        (good-judge start variables sorts sp Units true size to_place (part 0 t) (copy_scalars scalars t u) y i (good-scalars scalars t u y i (has-later z.log y.log g t.rooted q) r))))
 
     good-statement : (st : Statement) → NamesStatement S F P st → G Flows (statement names st)
     good-statement Skip f s i = (i, grows-same s.log, tt)

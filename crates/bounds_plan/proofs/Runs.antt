@@ -92,8 +92,8 @@ module _ (R : Relation) (k : Keeps R) where
   inside : (p s : ℕ) (b : BoundsPair) → leaving_value p s b ≡ None → is_outside p s b ≡ false
   inside p s b e = is_outside-leaving_value p s b ∙ ap is_some e
 
-  pub kept-judge : {B : Type 0} (size : ℕ) (place : Place) (p : Pointer) (go : M B) → (is_outside p.address size p.rooted.bounds ≡ false → KeptM go) → KeptM (judge size place p >> go)
-  kept-judge size place p go h = kept-unless (leaves p.rooted.bounds place (leaving_value p.address size p.rooted.bounds)) go (λ e. h (inside p.address size p.rooted.bounds (none-mapped _ (leaving_value p.address size p.rooted.bounds) e)))
+  pub kept-judge : {B : Type 0} (write : Bool) (size : ℕ) (place : Place) (p : Pointer) (go : M B) → (is_outside p.address size p.rooted.bounds ≡ false → KeptM go) → KeptM (judge write size place p >> go)
+  kept-judge write size place p go h = kept-unless (leaves p.rooted.bounds record { place = place; write = write; size = size } (leaving_value p.address size p.rooted.bounds)) go (λ e. h (inside p.address size p.rooted.bounds (none-mapped _ (leaving_value p.address size p.rooted.bounds) e)))
 
   pub kept-allow : {B : Type 0} (write : Bool) (size : ℕ) (p : Pointer) (go : M B) → (refusal write size p.address ≡ None → KeptM go) → KeptM (allow write size p >> go)
   kept-allow write size p go h = kept-unless (option_map _ (refusal write size p.address)) go (λ e. h (none-mapped _ (refusal write size p.address) e))
@@ -139,16 +139,16 @@ module _ (R : Relation) (k : Keeps R) where
   kept-write_pointer p v h g = λ s. kept-went p v.rooted.root v.address v.rooted.bounds (keep_bounds s.world.store p.address v.address v.rooted.bounds) s h g refl
 
   kept-load : (kind : IntKind) (place : Place) (p : Pointer) → KeptM (load kind place p)
-  kept-load kind place p = kept-judge (size_of kind) place p _ (λ in_bounds. kept-allow false (size_of kind) p _ (λ open_bytes. kept-read_number kind p (λ w l. k.read w l (size_of kind) p open_bytes in_bounds)))
+  kept-load kind place p = kept-judge false (size_of kind) place p _ (λ in_bounds. kept-allow false (size_of kind) p _ (λ open_bytes. kept-read_number kind p (λ w l. k.read w l (size_of kind) p open_bytes in_bounds)))
 
   kept-store : (kind : IntKind) (place : Place) (p : Pointer) (n : ℕ) → KeptM (store kind place p n)
-  kept-store kind place p n = kept-judge (size_of kind) place p _ (λ in_bounds. kept-allow true (size_of kind) p _ (λ open_bytes. kept-write_number kind p n (λ w l v. k.wrote w l (size_of kind) p v open_bytes in_bounds)))
+  kept-store kind place p n = kept-judge true (size_of kind) place p _ (λ in_bounds. kept-allow true (size_of kind) p _ (λ open_bytes. kept-write_number kind p n (λ w l v. k.wrote w l (size_of kind) p v open_bytes in_bounds)))
 
   kept-load_ptr : (place : Place) (p : Pointer) → KeptM (load_ptr place p)
-  kept-load_ptr place p = kept-judge 8 place p _ (λ in_bounds. kept-allow false 8 p _ (λ open_bytes. kept-read_pointer p (λ w l. k.read w l 8 p open_bytes in_bounds)))
+  kept-load_ptr place p = kept-judge false 8 place p _ (λ in_bounds. kept-allow false 8 p _ (λ open_bytes. kept-read_pointer p (λ w l. k.read w l 8 p open_bytes in_bounds)))
 
   kept-store_ptr : (place : Place) (p v : Pointer) → KeptM (store_ptr place p v)
-  kept-store_ptr place p v = kept-judge 8 place p _ (λ in_bounds. kept-allow true 8 p _ (λ open_bytes. kept-write_pointer p v (λ w l n. k.wrote w l 8 p n open_bytes in_bounds) (λ w l n b s e. k.wrote_pointer w l p n b s open_bytes in_bounds e)))
+  kept-store_ptr place p v = kept-judge true 8 place p _ (λ in_bounds. kept-allow true 8 p _ (λ open_bytes. kept-write_pointer p v (λ w l n. k.wrote w l 8 p n open_bytes in_bounds) (λ w l n b s e. k.wrote_pointer w l p n b s open_bytes in_bounds e)))
 
   -- ---- calls and services
 
@@ -281,7 +281,7 @@ module _ (R : Relation) (k : Keeps R) where
     kept-effect names h (ForNumber e) fit = seq_ (number names e) _ (kept-number names h e) (λ s. k.same s.world s.log)
     kept-effect names h (ForPointer e) fit = seq_ (pointer names e) _ (kept-pointer names h e) (λ s. k.same s.world s.log)
     kept-effect names h (CopyStruct size scalars to_place to from_place from) fit = seq (pointer names to) _ (kept-pointer names h to) (λ t. seq (pointer names from) _ (kept-pointer names h from) (λ f.
-        kept-judge size from_place (part 0 f) _ (λ from_in. kept-judge size to_place (part 0 t) _ (λ to_in. kept-copy_scalars scalars t f (copies size scalars fit t f from_in to_in)))))
+        kept-judge false size from_place (part 0 f) _ (λ from_in. kept-judge true size to_place (part 0 t) _ (λ to_in. kept-copy_scalars scalars t f (copies size scalars fit t f from_in to_in)))))
 
     kept-turn_from : (n : ℕ) (s : State) → s.world.turns ≡ n → Kept s (turn_from n s)
     kept-turn_from zero s e = k.same s.world s.log

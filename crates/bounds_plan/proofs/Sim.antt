@@ -10,7 +10,7 @@ use Rattle.fat_ir.specs.Calls.{Outcome, Stops}
 use Rattle.fat_ir.specs.Step.{Symbols, State as T, Next, Reached, On, Over, number_then, bounds_then, held_then, with_value, judged, stop_by, unless_refused, does}
 use Rattle.fat_ir.specs.declared.step.FatStep.TheVariants.{Judge}
 use Rattle.mx_base.specs.declared.places.Place.{Place as PlaceOf}
-use Rattle.mx_base.specs.StopOfC.{Bounds, AtPlace}
+use Rattle.mx_base.specs.StopOfC.{Bounds, AccessOfC, AtAccess}
 use Rattle.mx_base.specs.Bounds.{leaving_value}
 use Rattle.mx_base.specs.Access.{Refusal, refusal}
 use Rattle.std.specs.Option.{option_map}
@@ -110,17 +110,20 @@ module _ (private : ℕ) (sorts : ℕ → Bool) where
     on_step P res i rest s u e h = let S : Reached → Type 0 = λ r. Sim P res r in subst S (sym (first_step symbols i rest s u e)) h
 
     -- a judgement on both sides
-    pub judge_follows : {A : Type 0} (P : A → T → Type 0) (size : ℕ) (place : PlaceOf) (p : Pointer) (go : M A) (v b : ℕ) (write : Bool) (rest : List FatStep) (st : State) (u : T)
+    pub judge_follows : {A : Type 0} (P : A → T → Type 0) (write : Bool) (size : ℕ) (place : PlaceOf) (p : Pointer) (go : M A) (v b : ℕ) (rest : List FatStep) (st : State) (u : T)
         → st.world ≡ u.world → u.values v ≡ Number p.address → u.values b ≡ Pair p.rooted.bounds → Sim P (go st) (pass symbols rest Next u)
-        → Sim P ((judge size place p >> go) st) (pass symbols (Judge v size b write place ∷ rest) Next u)
-    judge_follows P size place p go v b write rest st u same at_v at_b h =
-        let S : Reached → Type 0 = λ r. Sim P ((judge size place p >> go) st) r in
+        → Sim P ((judge write size place p >> go) st) (pass symbols (Judge v size b write place ∷ rest) Next u)
+    judge_follows P write size place p go v b rest st u same at_v at_b h =
+        let S : Reached → Type 0 = λ r. Sim P ((judge write size place p >> go) st) r in
         subst S (sym (ap (λ r. and_then r (pass symbols rest)) (read_number _ at_v ∙ read_bounds _ at_b)))
         (by_cases (leaving_value p.address size p.rooted.bounds) h)
       where
-        by_cases : (o : Option ℕ) → Sim P (go st) (pass symbols rest Next u) → Sim P ((unless (leaves p.rooted.bounds place o) >> go) st) (and_then (judged o p.rooted.bounds place u) (pass symbols rest))
+        abbrev the_access : AccessOfC
+        the_access = record { place = place; write = write; size = size }
+
+        by_cases : (o : Option ℕ) → Sim P (go st) (pass symbols rest Next u) → Sim P ((unless (leaves p.rooted.bounds the_access o) >> go) st) (and_then (judged o p.rooted.bounds the_access u) (pass symbols rest))
         by_cases None h = h
-        by_cases (Some x) h = ap (λ w. Over (Stops (Bounds x p.rooted.bounds (AtPlace place)) w)) (sym same)
+        by_cases (Some x) h = ap (λ w. Over (Stops (Bounds x p.rooted.bounds (AtAccess the_access)) w)) (sym same)
 
     -- an access on both sides, refused or done
     pub allow_follows : {A : Type 0} (P : A → T → Type 0) (write : Bool) (size : ℕ) (p : Pointer) (go : M A) (i : FatStep) (rest : List FatStep) (st : State) (u : T) (done : Reached)

@@ -6,6 +6,8 @@ use Rattle.mx_base.specs.declared.numbers.IntKind.{IntKind}
 use Rattle.mx_base.specs.declared.numbers.IntKind.TheVariants.{I32, I64, U64}
 use Rattle.mx_base.specs.declared.places.Place.{Place}
 use Rattle.mx_base.specs.Operators.{Arithmetic, Times, Over, Rest, Plus, Minus, Left, Right, BitAnd, BitXor, BitOr, Comparison, arithmetic_at, comparison_at}
+use Rattle.narrowing.specs.declared.member.Rule.{Rule}
+use Rattle.narrowing.specs.declared.member.Rule.TheVariants.{Keep, Meet}
 use Rattle.c_tree.specs.declared.tree.ExprKind.{ExprKind-F}
 use Rattle.c_tree.specs.declared.tree.ExprKind.TheFolds as ef
 use Rattle.c_tree.specs.declared.tree.ExprKind.TheOpen as e
@@ -17,8 +19,8 @@ use Rattle.bounds_plan.specs.ElaborateTypes.{Value, Numeric, Address, number_in,
 use Rattle.c_check_rules.specs.declared.predeclared.Bind.{Bind}
 use Rattle.c_check_rules.specs.declared.predeclared.Bind.TheVariants.{Global, Local, Fun, Service, Builtin}
 use Rattle.bounds_plan.specs.ElaborateSource.{Stand, Private, Frame, Reached, Signature, Around, kind_at, bind_at}
-use Rattle.bounds_plan.specs.ElaboratePlaces.{Lvalue, NumberVariable, PointerVariable, InMemory, address_in, loaded_as, read_as, stored_as, written_as, changed_at, changed_as, variable_at, variable_of, private_values_of}
-use Rattle.bounds_plan.specs.ElaborateExpressions.{Found, Reading, effect_of, no_place, a_place, symbol_of, named, promoted_number, negative, inverse, is_zero, unary, arithmetic, compared, binary_as, binary, chosen_as, assigned, struct_copied, assignment_effect, compound_at, changed, assign_by, stepped_by, find_all, with_argument, arguments_for, called_as, argument_at, number_of_argument, pointer_of_argument, served, built_in, function_called, called, member, arrow, index, step, expression}
+use Rattle.bounds_plan.specs.ElaboratePlaces.{Lvalue, NumberVariable, PointerVariable, InMemory, address_in, loaded_as, read_as, stored_as, written_as, changed_at, changed_as, variable_at, variable_of, private_values_of, element_at, under_rule}
+use Rattle.bounds_plan.specs.ElaborateExpressions.{Found, Reading, effect_of, no_place, a_place, symbol_of, named, promoted_number, negative, inverse, is_zero, unary, arithmetic, compared, binary_as, binary, chosen_as, assigned, struct_copied, assignment_effect, compound_at, changed, assign_by, stepped_by, find_all, with_argument, arguments_for, called_as, argument_at, number_of_argument, pointer_of_argument, served, built_in, function_called, called, member, arrow, index_rule, index, step, expression}
 use Rattle.bounds_plan.specs.ElaborateWaits.{waits_from, is_logical, expr_waits, waits}
 use Rattle.c_tree.proofs.Inductions.{ExprA, ExprB, bare_exprs, every_exprs, exprs_fused}
 
@@ -331,6 +333,12 @@ called_short w around few type (Builtin number) all h = built_in_short w number 
 called_short w around few type (Global number) all h = omega arith
 called_short w around few type (Local number) all h = omega arith
 
+-- ---- elements
+
+rule_short : (n : ℕ) (rule : Rule) (p : PointerExpr) → 3 ≤ n → pairs_ptr p ≤ n → pairs_ptr (under_rule rule p) ≤ n
+rule_short n Keep p three h = h
+rule_short n (Meet offset size) p three h = omega arith
+
 -- ---- expressions: what is found of them beside how many values wait
 abbrev ReadA : Type 0
 ReadA = (Place → Reading) × ℕ
@@ -363,7 +371,9 @@ step_short (e.Call name all) place around few r = let xs = find_all (map (λ b. 
     no_place_short w (kind_at around xs.after) (called around (kind_at around xs.after) (bind_at around xs.after) xs.all) place _ (called_short w around few (kind_at around xs.after) (bind_at around xs.after) xs.all (found_all_short 0 all around few r))
 step_short (e.Index a i) place around few r = let x = a.0.0 around r in let y = i.0.0 around x.after in let w : ℕ = max a.0.1 (i.0.1 + 1) in
     let h = pointer_short (a.0.1 + 7) x.value (omega arith) (a.1 around few r).value in let k = number_short (i.0.1 + 7) y.value (i.1 around few x.after).value in
-    a_place_short w (kind_at around y.after) (index around (kind_at around y.after) x y) place _ (omega arith)
+    let type = kind_at around y.after in
+    a_place_short w type (index around type x y) place _
+        (rule_short (w + 7) (index_rule around type x) (element_at false (size_in around.structs type) (pointer_in x.value) (number_in y.value)) (omega arith) (omega arith))
 step_short (e.Member a name) place around few r = let x = a.0.0 around r in let h = pointer_short (a.0.1 + 7) x.value (omega arith) (a.1 around few r).value in a_place_short a.0.1 (kind_at around x.after) (member around (kind_at around x.after) x name) place _ (omega arith)
 step_short (e.Arrow a name) place around few r = let x = a.0.0 around r in let h = pointer_short (a.0.1 + 7) x.value (omega arith) (a.1 around few r).value in a_place_short a.0.1 (kind_at around x.after) (arrow around (kind_at around x.after) x name) place _ (omega arith)
 step_short (e.Cast base stars a) place around few r = let x = a.0.0 around r in no_place_short a.0.1 (kind_at around x.after) _ place _ (cast_short (a.0.1 + 7) (sort_of (kind_at around x.after)) x.type x.value (omega arith) (a.1 around few r).value)

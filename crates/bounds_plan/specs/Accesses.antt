@@ -9,17 +9,17 @@ use Rattle.mx_base.specs.Bounds.{leaving_value}
 use Rattle.mx_base.specs.Memory.{number_at}
 use Rattle.mx_base.specs.Access.{refusal}
 use Rattle.mx_base.specs.BoundsStore.{Kept, granule}
-use Rattle.mx_base.specs.StopOfC.{StopOfC, Bounds, NoTable, AtPlace}
+use Rattle.mx_base.specs.StopOfC.{StopOfC, Bounds, NoTable, AccessOfC, AtAccess}
 use Rattle.mx_base.specs.World.{World, NothingKept, Root, FullBy, Log, read_noted, number_written, pointer_read, pointer_written}
 use Rattle.fat_ir.specs.Step.{stop_by}
 use Rattle.bounds_plan.specs.State.{Pointer, State, Ended, Done, Stopped, M, ◌>>◌, unless, with_access, with_cause, listed}
 
 -- the stop of an access that leaves its bounds by a value
-abbrev pub leaves : BoundsPair → Place → Option ℕ → Option StopOfC
-leaves b place o = option_map (λ value. Bounds value b (AtPlace place)) o
+abbrev pub leaves : BoundsPair → AccessOfC → Option ℕ → Option StopOfC
+leaves b access o = option_map (λ value. Bounds value b (AtAccess access)) o
 
-abbrev pub judge : (size : ℕ) → Place → Pointer → M (Unit {0})
-judge size place p = unless (leaves p.rooted.bounds place (leaving_value p.address size p.rooted.bounds))
+abbrev pub judge : (write : Bool) → (size : ℕ) → Place → Pointer → M (Unit {0})
+judge write size place p = unless (leaves p.rooted.bounds record { place = place; write = write; size = size } (leaving_value p.address size p.rooted.bounds))
 
 -- the stop of an access that its bounds allow
 abbrev pub allow : (write : Bool) → (size : ℕ) → Pointer → M (Unit {0})
@@ -71,24 +71,24 @@ write_pointer p v = λ s. went p v.rooted.root (pointer_written s.world p.addres
 
 abbrev pub load : IntKind → Place → Pointer → M ℕ
 load kind place p = do
-  judge (size_of kind) place p
+  judge false (size_of kind) place p
   allow false (size_of kind) p
   read_number kind p
 
 abbrev pub store : IntKind → Place → Pointer → ℕ → M (Unit {0})
 store kind place p n = do
-  judge (size_of kind) place p
+  judge true (size_of kind) place p
   allow true (size_of kind) p
   write_number kind p n
 
 abbrev pub load_ptr : Place → Pointer → M Pointer
 load_ptr place p = do
-  judge 8 place p
+  judge false 8 place p
   allow false 8 p
   read_pointer p
 
 abbrev pub store_ptr : Place → Pointer → Pointer → M (Unit {0})
 store_ptr place p v = do
-  judge 8 place p
+  judge true 8 place p
   allow true 8 p
   write_pointer p v

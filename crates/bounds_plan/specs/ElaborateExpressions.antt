@@ -1,9 +1,11 @@
 -- What an expression of the tree is in the core tree.
-use Rattle.std.specs.Prelude.{ℕ, zero, suc, ◌+◌, ◌==◌, Bool, true, false, not, if◌then◌else◌, Option, None, Some, List, [], ◌∷◌, length, slice_get, slice_index_or}
+use Rattle.std.specs.Prelude.{ℕ, zero, suc, ◌+◌, ◌==◌, ◌&&◌, Bool, true, false, not, if◌then◌else◌, Option, None, Some, List, [], ◌∷◌, length, slice_get, slice_index_or}
 use Rattle.mx_base.specs.declared.numbers.IntKind.{IntKind}
 use Rattle.mx_base.specs.declared.numbers.IntKind.TheVariants.{I32, I64, U64}
 use Rattle.mx_base.specs.declared.places.Place.{Place}
 use Rattle.mx_base.specs.Operators.{Arithmetic, Times, Over, Rest, Plus, Minus, Left, Right, BitAnd, BitXor, BitOr, Comparison, Equal, arithmetic_at, comparison_at}
+use Rattle.narrowing.specs.declared.member.Rule.{Rule}
+use Rattle.narrowing.specs.Element.{element_rule}
 use Rattle.c_tree.specs.declared.tree.Base.{Base}
 use Rattle.c_tree.specs.declared.tree.Base.TheVariants as b
 use Rattle.c_tree.specs.declared.tree.Expr.{Expr, fold-Expr}
@@ -12,11 +14,11 @@ use Rattle.c_tree.specs.declared.tree.ExprKind.TheOpen as e
 use Rattle.c_types.specs.Types.{CType, Void, Int, Pointer, Struct, StructType}
 use Rattle.bounds_plan.specs.Core.{NumberExpr, Word, Operate, Compare, And, Or, Choose, Call, Serve, Ask, AsNumber, PointerExpr, Function, Object, ChoosePtr, CallPtr, Alloc, SetBounds, NarrowBounds, CopyBounds, InitBounds, BoundOf, Arguments, NoMore, WithNumber, WithPointer, Effect, OfNumber, OfPointer, CopyStruct}
 use Rattle.bounds_plan.specs.ElaborateScalars.{scalars_of}
-use Rattle.bounds_plan.specs.ElaborateTypes.{Value, Numeric, Address, number_in, pointer_in, Sort, ANumber, APointer, AWhole, NoValue, sort_of, kind_of, target_of, size_in, step_in, promoted, common, done_in, converted, right_operand, wanted_pointer, given, cast_to}
+use Rattle.bounds_plan.specs.ElaborateTypes.{Value, Numeric, Address, number_in, pointer_in, Sort, ANumber, APointer, AWhole, NoValue, sort_of, is_array, kind_of, target_of, size_in, step_in, promoted, common, done_in, converted, right_operand, wanted_pointer, given, cast_to}
 use Rattle.c_check_rules.specs.declared.predeclared.Bind.{Bind}
 use Rattle.c_check_rules.specs.declared.predeclared.Bind.TheVariants.{Global, Local, Fun, Service, Builtin}
 use Rattle.bounds_plan.specs.ElaborateSource.{Reached, Signature, Around, kind_at, bind_at, literal_at, past_kind, past_name, past_literal, start}
-use Rattle.bounds_plan.specs.ElaboratePlaces.{Lvalue, InMemory, address_in, read_as, written_as, changed_as, takes_away, variable_of, place_among, struct_of, member_at, element_at, element_after}
+use Rattle.bounds_plan.specs.ElaboratePlaces.{Lvalue, InMemory, address_in, read_as, written_as, changed_as, takes_away, variable_of, place_among, struct_of, member_at, element_at, element_after, under_rule}
 
 -- what is found of an expression: its type and value, and its place in the sources; the place that it is, if it is one; what it does as a whole
 -- statement; the bytes of a text; and how far the tree was gone through after it
@@ -255,7 +257,7 @@ called around type (Local number) all = Numeric (Word 0)
 
 -- the member of a name in the struct at p
 abbrev pub member_named : Around → (struct : ℕ) → CType → List ℕ → PointerExpr → PointerExpr
-member_named around struct type name p = member_at around.flags around.structs struct (place_among (slice_index_or around.members struct []) name) (size_in around.structs type) p
+member_named around struct type name p = member_at around.flags around.structs struct (place_among (slice_index_or around.members struct []) name) type p
 
 -- `a.m`, where a is a struct
 abbrev pub member : Around → CType → Found → List ℕ → Lvalue
@@ -265,9 +267,12 @@ member around type a name = InMemory (member_named around (struct_of a.type) typ
 abbrev pub arrow : Around → CType → Found → List ℕ → Lvalue
 arrow around type a name = InMemory (member_named around (struct_of (target_of a.type)) type name (pointer_in a.value))
 
--- `a[i]`
+-- the rule of `a[i]`, which has this type: only where a is an array is that an element of one, which is nested if it is an array itself
+abbrev pub index_rule : Around → CType → Found → Rule
+index_rule around type a = element_rule around.flags (is_array a.type && is_array type) 0 (size_in around.structs type)
+
 abbrev pub index : Around → CType → Found → Found → Lvalue
-index around type a i = InMemory (element_at false (size_in around.structs type) (pointer_in a.value) (number_in i.value))
+index around type a i = InMemory (under_rule (index_rule around type a) (element_at false (size_in around.structs type) (pointer_in a.value) (number_in i.value)))
 
 -- ---- expressions
 

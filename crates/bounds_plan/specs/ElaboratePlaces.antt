@@ -1,16 +1,18 @@
 -- Places: what can be read, assigned to, or have its address taken; and the addresses of variables, members and elements.
-use Rattle.std.specs.Prelude.{ℕ, zero, suc, ◌+◌, ◌==◌, Bool, true, false, List, [], ◌∷◌, ◌++◌, length, map, slice_index, slice_index_or}
+use Rattle.std.specs.Prelude.{ℕ, zero, suc, ◌+◌, ◌==◌, ◌&&◌, Bool, true, false, List, [], ◌∷◌, ◌++◌, length, map, slice_index, slice_index_or}
 use Rattle.std.specs.List.{position_or_len}
 use Rattle.std.specs.Str.{bytes_eq}
 use Rattle.mx_base.specs.declared.numbers.IntKind.{IntKind}
 use Rattle.mx_base.specs.declared.places.Place.{Place}
 use Rattle.mx_base.specs.declared.settings.Flags.{Flags}
 use Rattle.mx_base.specs.Operators.{Arithmetic, Times, Over, Rest, Plus, Minus, Left, Right, BitAnd, BitXor, BitOr}
-use Rattle.narrowing.specs.Member.{rule_of}
+use Rattle.narrowing.specs.declared.member.Rule.{Rule}
+use Rattle.narrowing.specs.declared.member.Rule.TheVariants.{Keep, Meet}
+use Rattle.narrowing.specs.Member.{member_rule}
 use Rattle.c_types.specs.Types.{CType, Void, Int, Pointer, Array, Struct, StructType, members_of}
 use Rattle.c_types.specs.Layouts.{layout_of, offsets_from}
 use Rattle.bounds_plan.specs.Core.{NumberExpr, Variable, Assign, Load, Store, Update, UpdateAt, PointerExpr, Null, InFrame, VariablePtr, AssignPtr, Member, Element, ElementAfter, LoadPtr, StorePtr, Advance, AdvanceAt}
-use Rattle.bounds_plan.specs.ElaborateTypes.{Value, Numeric, Address, number_in, pointer_in, Sort, ANumber, APointer, AWhole, NoValue, sort_of, size_in, done_in, right_operand}
+use Rattle.bounds_plan.specs.ElaborateTypes.{Value, Numeric, Address, number_in, pointer_in, Sort, ANumber, APointer, AWhole, NoValue, sort_of, is_array, size_in, done_in, right_operand}
 use Rattle.bounds_plan.specs.ElaborateSource.{Stand, Private, Frame}
 
 -- a place is a private variable of a number or a pointer, by its value, or stands in memory at an address
@@ -139,9 +141,14 @@ offset_in structs struct index = slice_index (offsets_from 0 (map (layout_of str
 abbrev pub member_type : List StructType → (struct index : ℕ) → CType
 member_type structs struct index = slice_index_or (members_of structs struct) index Void
 
--- the member of this place and size in a struct at p
-abbrev pub member_at : Flags → List StructType → (struct index size : ℕ) → PointerExpr → PointerExpr
-member_at flags structs struct index size p = Member (offset_in structs struct index) (rule_of flags (index == 0) (offset_in structs struct index) size) p
+-- whether a member of this type is the last one of its struct, and an array
+abbrev pub is_trailing : List StructType → (struct index : ℕ) → CType → Bool
+is_trailing structs struct index type = index + 1 == length (members_of structs struct) && is_array type
+
+-- the member of this place and type in a struct at p
+abbrev pub member_at : Flags → List StructType → (struct index : ℕ) → CType → PointerExpr → PointerExpr
+member_at flags structs struct index type p =
+    Member (offset_in structs struct index) (member_rule flags (index == 0) (is_trailing structs struct index type) (offset_in structs struct index) (size_in structs type)) p
 
 -- the address so many elements of this size further, or before; and a number of elements plus a pointer, of which the number comes first
 abbrev pub element_at : (minus : Bool) → (size : ℕ) → PointerExpr → (i : NumberExpr) → PointerExpr
@@ -149,3 +156,8 @@ element_at minus size p i = Element minus size p i
 
 abbrev pub element_after : (size : ℕ) → (i : NumberExpr) → PointerExpr → PointerExpr
 element_after size i p = ElementAfter size i p
+
+-- an element under its rule: where its bounds are met with its bytes, it is the part at offset 0 of itself
+abbrev pub under_rule : Rule → PointerExpr → PointerExpr
+under_rule Keep p = p
+under_rule (Meet offset size) p = Member 0 (Meet offset size) p

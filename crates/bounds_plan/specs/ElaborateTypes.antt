@@ -1,5 +1,5 @@
 -- The values of C by their types, and the conversions between types (C: 6.3, 6.5.3 to 6.5.15).
-use Rattle.std.specs.Prelude.{ℕ, nat_le, nat_lt, Bool, false, if◌then◌else◌, List}
+use Rattle.std.specs.Prelude.{ℕ, nat_le, nat_lt, Bool, true, false, if◌then◌else◌, List}
 use Rattle.mx_base.specs.declared.numbers.IntKind.{IntKind}
 use Rattle.mx_base.specs.declared.numbers.IntKind.TheVariants.{I8, U8, I16, U16, I32, U32, I64, U64}
 use Rattle.mx_base.specs.Numbers.{is_signed}
@@ -41,6 +41,13 @@ sort_of (Int kind) = ANumber kind
 sort_of (Pointer target) = APointer
 sort_of (Array element count) = AWhole
 sort_of (Struct number) = AWhole
+
+abbrev pub is_array : CType → Bool
+is_array Void = false
+is_array (Int kind) = false
+is_array (Pointer target) = false
+is_array (Array element count) = true
+is_array (Struct number) = false
 
 -- the type in which a value is a number: an address is an `unsigned long`
 abbrev pub kind_of : CType → IntKind

@@ -20,6 +20,7 @@ pub mod Sorts
 pub mod State
 pub mod Statements
 pub mod Worked
+pub mod WorkedFlags
 pub mod WorkedRuns
 pub mod WorkedSources
 pub mod WorkedForms

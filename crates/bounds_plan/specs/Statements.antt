@@ -41,8 +41,8 @@ effect names (ForPointer p) = pointer names p >> pure tt
 effect names (CopyStruct size scalars to_place to from_place from) = do
   t ← pointer names to
   f ← pointer names from
-  judge size from_place (part 0 f)
-  judge size to_place (part 0 t)
+  judge false size from_place (part 0 f)
+  judge true size to_place (part 0 t)
   copy_scalars scalars t f
 
 -- ---- turns and loops

@@ -8,7 +8,7 @@ use Rattle.mx_base.specs.Operators.{Plus, Minus, Over, Below, Equal}
 use Rattle.mx_base.specs.StopOfC.{StopOfC}
 use Rattle.mx_base.specs.Memory.{no_bytes}
 use Rattle.mx_base.specs.World.{Access, world_at_start, Log, empty_log}
-use Rattle.narrowing.specs.Member.{rule_of}
+use Rattle.narrowing.specs.Member.{member_rule}
 use Rattle.fat_ir.specs.Step.{ObjectAt}
 use Rattle.fat_ir.specs.Calls.{Outcome, Comes as ComesBack, Stops as StopsAt, Stuck, Callee}
 use Rattle.fat_ir.specs.Functions.{OfC, Outside, Linked as FatLinked, calls as steps_calls, exited as exited_steps}
@@ -45,6 +45,19 @@ pair lb ub = record { lb = lb; ub = ub }
 
 abbrev pub at : (line col : ℕ) → Place
 at line col = record { file = 0; line = line; col = col }
+
+-- ---- flags
+
+-- narrowing as it is without further flags, and none
+abbrev pub narrowing : Flags
+narrowing = record { narrow = true; first_own = false; innermost = false; flexible = false }
+
+abbrev pub not_narrowing : Flags
+not_narrowing = record narrowing { narrow = false }
+
+-- every flag but narrowing
+abbrev pub other_flags_alone : Flags
+other_flags_alone = record { narrow = false; first_own = true; innermost = true; flexible = true }
 
 -- ---- one unit: its functions have the symbols from 0 on, and its objects stand where these symbols say
 
@@ -194,8 +207,8 @@ prints_bounds p = Then (print (AsNumber (BoundOf false p))) (print (AsNumber (Bo
 
 abbrev pub prints_members : Flags → Statement
 prints_members flags = in_order (
-    prints_bounds (Member 0 (rule_of flags true 0 4) (Object 0 0 16))
-    ∷ prints_bounds (Member 4 (rule_of flags false 4 8) (Object 0 0 16))
+    prints_bounds (Member 0 (member_rule flags true false 0 4) (Object 0 0 16))
+    ∷ prints_bounds (Member 4 (member_rule flags false false 4 8) (Object 0 0 16))
     ∷ ends_with_0
     ∷ [])
 
@@ -208,7 +221,7 @@ abbrev pub pairs_of_pointers : ℕ → ℕ
 pairs_of_pointers s = if s == 0 then 0x2000_0000 else if s == 1 then 0x2000_0004 else if s == 2 then 0x2000_0008 else 0x2000_0018
 
 abbrev pub field : (struct offset : ℕ) → (first : Bool) → PointerExpr
-field struct offset first = Member offset (rule_of record { narrow = true } first offset 8) (Object struct 0 16)
+field struct offset first = Member offset (member_rule narrowing first false offset 8) (Object struct 0 16)
 
 abbrev pub copies_pointers : Statement
 copies_pointers = in_order (

@@ -38,12 +38,6 @@ steps_run_of defined symbols address stored depth main turns = told_of_steps (ex
 abbrev pub data_of : Source → (address : ℕ → ℕ) → Bytes
 data_of s address = λ a. if nat_lt a (address s.layout.texts) then 0 else slice_index s.literals (a - address s.layout.texts)
 
-abbrev pub narrowing : Flags
-narrowing = record { narrow = true }
-
-abbrev pub not_narrowing : Flags
-not_narrowing = record { narrow = false }
-
 abbrev pub run_source : Source → Flags → (address : ℕ → ℕ) → (depth main : ℕ) → List Bounds → (turns : ℕ) → Option Told
 run_source s flags address depth main made turns = runs_of (elaborated s.tree s.meanings s.layout flags) s.layout.functions address (data_of s address) depth main made turns
 

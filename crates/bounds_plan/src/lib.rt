@@ -21,6 +21,7 @@ pub use laws::{
     steps_name_values_of_their_sort, turns_never_grow,
 };
 pub use sources::{
-    small_sources_mean_so, small_sources_run_out_so, sources_with_every_form_say_so,
+    flags_decide_bounds_so, small_sources_mean_so, small_sources_run_out_so,
+    sources_with_every_form_say_so, stops_tell_accesses_so,
 };
 pub use worked::{compiled_programs_run_so, small_programs_mean_so};

@@ -5,6 +5,8 @@ use Rattle.mx_base.specs.declared.numbers.IntKind.{IntKind}
 use Rattle.mx_base.specs.declared.numbers.IntKind.TheVariants.{I32, I64, U64}
 use Rattle.mx_base.specs.declared.places.Place.{Place}
 use Rattle.mx_base.specs.Operators.{Arithmetic, Times, Over, Rest, Plus, Minus, Left, Right, BitAnd, BitXor, BitOr, Comparison}
+use Rattle.narrowing.specs.declared.member.Rule.{Rule}
+use Rattle.narrowing.specs.declared.member.Rule.TheVariants.{Keep, Meet}
 use Rattle.c_types.specs.Types.{CType, Void, StructType}
 use Rattle.bounds_plan.specs.Core.{NumberExpr, Word, Convert, PointerExpr, Arguments}
 use Rattle.bounds_plan.specs.Roots.{Names, NamesPtr, NamesAll, NamesEffect}
@@ -12,8 +14,8 @@ use Rattle.bounds_plan.specs.ElaborateTypes.{Value, Numeric, Address, number_in,
 use Rattle.c_check_rules.specs.declared.predeclared.Bind.{Bind}
 use Rattle.c_check_rules.specs.declared.predeclared.Bind.TheVariants.{Global, Local, Fun, Service, Builtin}
 use Rattle.bounds_plan.specs.ElaborateSource.{Reached, Signature, Around}
-use Rattle.bounds_plan.specs.ElaboratePlaces.{Lvalue, NumberVariable, PointerVariable, InMemory, address_in, loaded_as, read_as, stored_as, written_as, changed_at, changed_as}
-use Rattle.bounds_plan.specs.ElaborateExpressions.{Found, effect_of, no_place, a_place, symbol_of, promoted_number, negative, inverse, is_zero, unary, calculated, arithmetic, compared, binary_as, chosen_as, assigned, struct_copied, assignment_effect, compound_at, changed, assign_by, stepped_by, with_argument, arguments_for, called_as, argument_at, number_of_argument, pointer_of_argument, served, built_in, function_called, called}
+use Rattle.bounds_plan.specs.ElaboratePlaces.{Lvalue, NumberVariable, PointerVariable, InMemory, address_in, loaded_as, read_as, stored_as, written_as, changed_at, changed_as, under_rule}
+use Rattle.bounds_plan.specs.ElaborateExpressions.{Found, effect_of, no_place, a_place, symbol_of, promoted_number, negative, inverse, is_zero, unary, calculated, arithmetic, compared, binary_as, chosen_as, assigned, struct_copied, assignment_effect, compound_at, changed, assign_by, stepped_by, with_argument, arguments_for, called_as, argument_at, number_of_argument, pointer_of_argument, served, built_in, function_called, called, index_rule, index}
 
 module _ (S : ℕ → ℕ → ℕ → Type 0) (F : ℕ → ℕ → Type 0) (P : ℕ → Type 0) where
   abbrev pub NamesValue : Value → Type 0
@@ -259,3 +261,12 @@ module _ (S : ℕ → ℕ → ℕ → Type 0) (F : ℕ → ℕ → Type 0) (P : 
   called_names around type (Builtin number) all h = built_in_names number all h
   called_names around type (Global number) all h = tt
   called_names around type (Local number) all h = tt
+
+  -- ---- elements
+
+  rule_names : (rule : Rule) (p : PointerExpr) → NamesPtr S F P p → NamesPtr S F P (under_rule rule p)
+  rule_names Keep p h = h
+  rule_names (Meet offset size) p h = h
+
+  pub index_names : (around : Around) (type : CType) (a i : Found) → NamesFound a → NamesFound i → NamesPlace (index around type a i)
+  index_names around type a i h k = rule_names (index_rule around type a) _ (pointer_names a.value h.value, number_names i.value k.value)

@@ -17,7 +17,7 @@ use Rattle.bounds_plan.specs.ElaborateExpressions.{Found, Reading, named, called
 use Rattle.c_accepted.specs.Literals.{joined, sizes_step, text_sizes, HasSize, IsWholeText, NamesTexts}
 use Rattle.c_accepted.proofs.Gives.{named_gives, unary_gives}
 use Rattle.c_accepted.proofs.Sizing.{variable_named}
-use Rattle.c_accepted.proofs.Closing.{NamesFound, AllFound_name, no_place_names, a_place_names, unary_names, binary_as_names, chosen_names, assign_names, stepped_names, cast_names, called_names, number_names, pointer_names}
+use Rattle.c_accepted.proofs.Closing.{NamesFound, AllFound_name, no_place_names, a_place_names, unary_names, binary_as_names, chosen_names, assign_names, stepped_names, cast_names, called_names, index_names, pointer_names}
 
 -- ---- the two folds beside each other
 
@@ -157,7 +157,7 @@ module _ (T : ℕ → ℕ → Type 0) where
   names_step (e.Call name all) place around r h = let xs = find_all (reads all) around r in
       no_place_names _ _ _ (kind_at around xs.after) (called around (kind_at around xs.after) (bind_at around xs.after) xs.all) place _ (called_names _ _ _ around (kind_at around xs.after) (bind_at around xs.after) xs.all (names_all all around r h))
   names_step (e.Index a i) place around r h = let x = a.0.1 around r in let y = i.0.1 around x.after in
-      a_place_names _ _ _ (kind_at around y.after) (index around (kind_at around y.after) x y) place _ (pointer_names _ _ _ x.value (names_first a i.0.0 around r h).value, number_names _ _ _ y.value (names_second a i around r h).value)
+      a_place_names _ _ _ (kind_at around y.after) (index around (kind_at around y.after) x y) place _ (index_names _ _ _ around (kind_at around y.after) x y (names_first a i.0.0 around r h) (names_second a i around r h))
   names_step (e.Member a name) place around r h = let x = a.0.1 around r in a_place_names _ _ _ (kind_at around x.after) (member around (kind_at around x.after) x name) place _ (pointer_names _ _ _ x.value (a.1.1 around r h).value)
   names_step (e.Arrow a name) place around r h = let x = a.0.1 around r in a_place_names _ _ _ (kind_at around x.after) (arrow around (kind_at around x.after) x name) place _ (pointer_names _ _ _ x.value (a.1.1 around r h).value)
   names_step (e.Cast base stars a) place around r h = let x = a.0.1 around r in no_place_names _ _ _ (kind_at around x.after) _ place _ (cast_names _ _ _ (sort_of (kind_at around x.after)) x.type x.value (a.1.1 around r h).value)

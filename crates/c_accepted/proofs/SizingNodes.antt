@@ -23,7 +23,7 @@ use Rattle.c_accepted.specs.Alike.{meanings_of, IsAt, Front}
 use Rattle.c_accepted.specs.Wholes.{IsWhole, NamesWholes}
 use Rattle.c_accepted.proofs.Empty.{first_empty, second_empty, none_at}
 use Rattle.c_accepted.proofs.Going.{front_then}
-use Rattle.c_accepted.proofs.Closing.{AllFound_name, no_place_names, a_place_names, unary_names, binary_as_names, chosen_names, assign_names, stepped_names, cast_names, called_names, number_names, pointer_names}
+use Rattle.c_accepted.proofs.Closing.{AllFound_name, no_place_names, a_place_names, unary_names, binary_as_names, chosen_names, assign_names, stepped_names, cast_names, called_names, index_names, pointer_names}
 use Rattle.c_accepted.proofs.Owns.{IsFine, any, Fine, unary_fine, binary_fine, choice_fine, assign_fine, step_fine, index_fine, member_fine, arrow_fine, cast_fine, call_fine}
 use Rattle.c_accepted.proofs.Expressions.{front_own, fine_at, both_own, both_fine, all_own, BothA, BothB, step_both, struct_both, AreAlike, AreAlikeAt, PartsB, ArgumentsGo, arguments_go, name_at, every_step, both, checks_same, reads_same}
 use Rattle.c_accepted.proofs.Sizing.{KnownBy, Whole, found_known, name_whole}
@@ -159,7 +159,7 @@ whole_step (e.Cond c a d) place functions scope h vs few n around r w at = let x
     no_place_names _ _ _ (kind_at around z.after) (chosen_as (sort_of (kind_at around z.after)) x y z) place _ (chosen_names _ _ _ (sort_of (kind_at around z.after)) x y z k.0 k.1 k.2)
 whole_step (e.Call name all) place functions scope h vs few n around r w at = call_whole name all place scope h vs few n around r w at
 whole_step (e.Index a i) place functions scope h vs few n around r w at = let x = a.0.1 around r in let y = i.0.1 around x.after in let k = two_whole place _ scope a i (index_fine scope.structs) h vs few n around r w at in
-    a_place_names _ _ _ (kind_at around y.after) (index around (kind_at around y.after) x y) place _ (pointer_names _ _ _ x.value k.0.value, number_names _ _ _ y.value k.1.value)
+    a_place_names _ _ _ (kind_at around y.after) (index around (kind_at around y.after) x y) place _ (index_names _ _ _ around (kind_at around y.after) x y k.0 k.1)
 whole_step (e.Member a name) place functions scope h vs few n around r w at = let x = a.0.1 around r in
     a_place_names _ _ _ (kind_at around x.after) (member around (kind_at around x.after) x name) place _ (pointer_names _ _ _ x.value (one_whole place _ scope a (member_fine scope.structs name) h vs few n around r w at).value)
 whole_step (e.Arrow a name) place functions scope h vs few n around r w at = let x = a.0.1 around r in

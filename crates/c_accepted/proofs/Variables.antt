@@ -100,7 +100,7 @@ around_it state = record {
   signatures = [];
   meanings = record { kinds = []; binds = []; declared = [] };
   layout = record { globals = []; functions = []; texts = 0; literals = []; frames = [] };
-  flags = record { narrow = false };
+  flags = record { narrow = false; first_own = false; innermost = false; flexible = false };
   variables = [];
   stands = [];
   result = Void;

@@ -1,4 +1,4 @@
-//! Tests of the crates about C: tokens (`c_tokens`), trees (`c_tree`), types (`c_types`), members (`narrowing`),
+//! Tests of the crates about C: tokens (`c_tokens`), trees (`c_tree`), types (`c_types`), members and elements (`narrowing`),
 //! fat steps (`fat_ir`). They stand apart, since a crate with tests is proved twice.
 #![tactic(auto)]
 

@@ -1,9 +1,9 @@
 -- What a judgement passes, and where it stops.
 use Rattle.std.proofs.Common.{ℕ, ◌≡◌, ◌≤◌, refl, sym, ap, ◌∙◌, false, Option, Some, None, is_some}
 use Rattle.mx_base.specs.declared.limits.Bounds.{Bounds as BoundsPair}
-use Rattle.mx_base.specs.declared.places.Place.{Place as PlaceOf}
 use Rattle.mx_base.specs.Bounds.{last_byte, leaving_value, is_outside}
 use Rattle.mx_base.proofs.BoundsLemmas.{is_outside-leaving_value, within-bounds}
+use Rattle.mx_base.specs.StopOfC.{AccessOfC}
 use Rattle.fat_ir.specs.Values.{Held, Nothing, Number, Pair}
 use Rattle.fat_ir.specs.Step.{State, Going, Next, Reached, On, number_then, bounds_then, judged}
 
@@ -18,11 +18,11 @@ none-leaves p s b h = is_none (leaving_value p s b) (sym (is_outside-leaving_val
 inside-bounds : (p s : ℕ) (b : BoundsPair) → leaving_value p s b ≡ None → (b.lb ≤ p) × (last_byte p s ≤ b.ub)
 inside-bounds p s b e = within-bounds p s b (is_outside-leaving_value p s b ∙ ap is_some e)
 
-abbrev judges : Held → Held → (size : ℕ) → PlaceOf → State → Reached
-judges h g size place s = number_then h (λ p. bounds_then g (λ b. judged (leaving_value p size b) b place s))
+abbrev judges : Held → Held → AccessOfC → State → Reached
+judges h g access s = number_then h (λ p. bounds_then g (λ b. judged (leaving_value p access.size b) b access s))
 
-pub passes-within : (h g : Held) (size p : ℕ) (b : BoundsPair) (place : PlaceOf) (s : State) → h ≡ Number p → g ≡ Pair b → is_outside p size b ≡ false → judges h g size place s ≡ On Next s
-passes-within h g size p b place s e d inside = ap (λ x. judges x g size place s) e ∙ ap (λ x. judges (Number p) x size place s) d ∙ ap (λ o. judged o b place s) (none-leaves p size b inside)
+pub passes-within : (h g : Held) (p : ℕ) (b : BoundsPair) (access : AccessOfC) (s : State) → h ≡ Number p → g ≡ Pair b → is_outside p access.size b ≡ false → judges h g access s ≡ On Next s
+passes-within h g p b access s e d inside = ap (λ x. judges x g access s) e ∙ ap (λ x. judges (Number p) x access s) d ∙ ap (λ o. judged o b access s) (none-leaves p access.size b inside)
 
 -- what is known where a judgement was passed
 pub record Passed (h g : Held) (size : ℕ) : Type 0 where
@@ -33,15 +33,15 @@ pub record Passed (h g : Held) (size : ℕ) : Type 0 where
   pub low : b.lb ≤ p
   pub high : last_byte p size ≤ b.ub
 
-judged-within : (o : Option ℕ) (b : BoundsPair) (place : PlaceOf) (s t : State) (going : Going) → judged o b place s ≡ On going t → o ≡ None
-judged-within None b place s t going e = refl
-judged-within (Some x) b place s t going e = absurd (cc)
+judged-within : (o : Option ℕ) (b : BoundsPair) (access : AccessOfC) (s t : State) (going : Going) → judged o b access s ≡ On going t → o ≡ None
+judged-within None b access s t going e = refl
+judged-within (Some x) b access s t going e = absurd (cc)
 
-pub within-passed : (h g : Held) (size : ℕ) (place : PlaceOf) (s t : State) (going : Going) → judges h g size place s ≡ On going t → Passed h g size
-within-passed Nothing g size place s t going e = absurd (cc)
-within-passed (Pair b) g size place s t going e = absurd (cc)
-within-passed (Number p) Nothing size place s t going e = absurd (cc)
-within-passed (Number p) (Number n) size place s t going e = absurd (cc)
-within-passed (Number p) (Pair b) size place s t going e =
-    let inside = inside-bounds p size b (judged-within (leaving_value p size b) b place s t going e) in
+pub within-passed : (h g : Held) (access : AccessOfC) (s t : State) (going : Going) → judges h g access s ≡ On going t → Passed h g access.size
+within-passed Nothing g access s t going e = absurd (cc)
+within-passed (Pair b) g access s t going e = absurd (cc)
+within-passed (Number p) Nothing access s t going e = absurd (cc)
+within-passed (Number p) (Number n) access s t going e = absurd (cc)
+within-passed (Number p) (Pair b) access s t going e =
+    let inside = inside-bounds p access.size b (judged-within (leaving_value p access.size b) b access s t going e) in
     record { p = p; b = b; number = refl; pair = refl; low = inside.0; high = inside.1 }

@@ -4,7 +4,7 @@ use Rattle.std.specs.Option.{option_map}
 use Rattle.std.proofs.lemmas.Bool.Decides.{nat_tests}
 use Rattle.mx_base.specs.declared.limits.Bounds.{Bounds as BoundsPair}
 use Rattle.mx_base.specs.declared.numbers.IntKind.{IntKind}
-use Rattle.mx_base.specs.declared.places.Place.{Place as PlaceOf}
+use Rattle.mx_base.specs.StopOfC.{AccessOfC}
 use Rattle.mx_base.specs.Operators.{Arithmetic, Comparison, arithmetic_at, comparison_at, word_arithmetic}
 use Rattle.mx_base.specs.Numbers.{size_of}
 use Rattle.mx_base.specs.Bounds.{leaving_value}
@@ -80,9 +80,9 @@ quiet-compared : (to : ℕ) (op : Option Comparison) (kind : IntKind) (a b : ℕ
 quiet-compared to None kind a b s = tt
 quiet-compared to (Some op) kind a b s = leaves s.world
 
-quiet-judged : (o : Option ℕ) (b : BoundsPair) (place : PlaceOf) (s : State) → WorldAfter (LeavesMemory s.world) (judged o b place s)
-quiet-judged None b place s = leaves s.world
-quiet-judged (Some v) b place s = leaves s.world
+quiet-judged : (o : Option ℕ) (b : BoundsPair) (access : AccessOfC) (s : State) → WorldAfter (LeavesMemory s.world) (judged o b access s)
+quiet-judged None b access s = leaves s.world
+quiet-judged (Some v) b access s = leaves s.world
 
 quiet-unless_refused : (o : Option Refusal) (s : State) (r : Reached) → WorldAfter (LeavesMemory s.world) r → WorldAfter (LeavesMemory s.world) (unless_refused o s r)
 quiet-unless_refused None s r h = h
@@ -102,7 +102,7 @@ quiet-does symbols (Place to bounds symbol offset size) s q = leaves s.world
 quiet-does symbols (Make to p n) s q = after-number (WorldAfter (LeavesMemory s.world)) tt (s.values p) _ (λ x. after-number (WorldAfter (LeavesMemory s.world)) tt (s.values n) _ (λ y. leaves s.world))
 quiet-does symbols (Meet to a b) s q = after-bounds (WorldAfter (LeavesMemory s.world)) tt (s.values a) _ (λ x. after-bounds (WorldAfter (LeavesMemory s.world)) tt (s.values b) _ (λ y. leaves s.world))
 quiet-does symbols (Bound to from upper) s q = after-bounds (WorldAfter (LeavesMemory s.world)) tt (s.values from) _ (λ b. leaves s.world)
-quiet-does symbols (Judge value size bounds write place) s q = after-number (WorldAfter (LeavesMemory s.world)) tt (s.values value) _ (λ p. after-bounds (WorldAfter (LeavesMemory s.world)) tt (s.values bounds) _ (λ b. quiet-judged (leaving_value p size b) b place s))
+quiet-does symbols (Judge value size bounds write place) s q = after-number (WorldAfter (LeavesMemory s.world)) tt (s.values value) _ (λ p. after-bounds (WorldAfter (LeavesMemory s.world)) tt (s.values bounds) _ (λ b. quiet-judged (leaving_value p size b) b record { place = place; write = write; size = size } s))
 quiet-does symbols (Load p to kind) s q = after-number (WorldAfter (LeavesMemory s.world)) tt (s.values p) _ (λ a. quiet-unless_refused (refusal false (size_of kind) a) s (number_loaded a to kind s) (leaves_read s.world (size_of kind) a))
 quiet-does symbols (Store p from kind) s q = absurd (cc)
 quiet-does symbols (LoadPtr p to bounds) s q = after-number (WorldAfter (LeavesMemory s.world)) tt (s.values p) _ (λ a. quiet-unless_refused (refusal false 8 a) s (pointer_came to bounds (pointer_read s.world a) s) (leaves_pointer to bounds a s))
@@ -141,9 +141,9 @@ module _ (v : ℕ) where
   stays-compared to None kind a b s other = tt
   stays-compared to (Some op) kind a b s other = not_it to _ s.values other
 
-  stays-judged : (o : Option ℕ) (b : BoundsPair) (place : PlaceOf) (s : State) → Stays s (judged o b place s)
-  stays-judged None b place s = refl
-  stays-judged (Some x) b place s = tt
+  stays-judged : (o : Option ℕ) (b : BoundsPair) (access : AccessOfC) (s : State) → Stays s (judged o b access s)
+  stays-judged None b access s = refl
+  stays-judged (Some x) b access s = tt
 
   stays-unless_refused : (o : Option Refusal) (s : State) (r : Reached) → Stays s r → Stays s (unless_refused o s r)
   stays-unless_refused None s r h = h
@@ -186,7 +186,7 @@ module _ (v : ℕ) where
   others-stay symbols (Make to p n) s none = after-number (Stays s) tt (s.values p) _ (λ x. after-number (Stays s) tt (s.values n) _ (λ y. not_it to _ s.values none.0))
   others-stay symbols (Meet to a b) s none = after-bounds (Stays s) tt (s.values a) _ (λ x. after-bounds (Stays s) tt (s.values b) _ (λ y. not_it to _ s.values none.0))
   others-stay symbols (Bound to from upper) s none = after-bounds (Stays s) tt (s.values from) _ (λ b. not_it to _ s.values none.0)
-  others-stay symbols (Judge value size bounds write place) s none = after-number (Stays s) tt (s.values value) _ (λ p. after-bounds (Stays s) tt (s.values bounds) _ (λ b. stays-judged (leaving_value p size b) b place s))
+  others-stay symbols (Judge value size bounds write place) s none = after-number (Stays s) tt (s.values value) _ (λ p. after-bounds (Stays s) tt (s.values bounds) _ (λ b. stays-judged (leaving_value p size b) b record { place = place; write = write; size = size } s))
   others-stay symbols (Load p to kind) s none = after-number (Stays s) tt (s.values p) _ (λ a. stays-unless_refused (refusal false (size_of kind) a) s (number_loaded a to kind s) (not_it to _ s.values none.0))
   others-stay symbols (Store p from kind) s none = after-number (Stays s) tt (s.values p) _ (λ a. after-number (Stays s) tt (s.values from) _ (λ n. stays-unless_refused (refusal true (size_of kind) a) s (number_stored a n kind s) refl))
   others-stay symbols (LoadPtr p to bounds) s none = after-number (Stays s) tt (s.values p) _ (λ a. stays-unless_refused (refusal false 8 a) s (pointer_came to bounds (pointer_read s.world a) s) (stays-came to bounds (pointer_read s.world a) s none.0 none.1.0))

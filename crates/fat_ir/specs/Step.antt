@@ -2,14 +2,13 @@
 use Rattle.std.specs.Prelude.{ℕ, zero, suc, true, false, if◌then◌else◌, Option, None, Some, Result, Ok, Err, List, [], ◌∷◌}
 use Rattle.mx_base.specs.declared.limits.Bounds.{Bounds as BoundsPair}
 use Rattle.mx_base.specs.declared.numbers.IntKind.{IntKind}
-use Rattle.mx_base.specs.declared.places.Place.{Place as PlaceOf}
 use Rattle.mx_base.specs.Numbers.{size_of, extended}
 use Rattle.mx_base.specs.Operators.{Arithmetic, Comparison, arithmetic_at, comparison_at, word_arithmetic, word_compares}
 use Rattle.mx_base.specs.Bounds.{full_bounds, met, moved, bounds_at, leaving_value}
 use Rattle.mx_base.specs.Memory.{number_at}
 use Rattle.mx_base.specs.Access.{Refusal, Strays, Misses, refusal}
 use Rattle.mx_base.specs.Services.{Served, Answers, Exits, Overflows, Refused, served, c_service}
-use Rattle.mx_base.specs.StopOfC.{StopOfC, Exit, Bounds, Unmapped, Divide, StackOver, Strayed, NoTable, AtPlace}
+use Rattle.mx_base.specs.StopOfC.{StopOfC, Exit, Bounds, Unmapped, Divide, StackOver, Strayed, NoTable, AccessOfC, AtAccess}
 use Rattle.mx_base.specs.World.{World, read_noted, number_written, pointer_read, pointer_written}
 use Rattle.fat_ir.specs.declared.step.FatStep.{FatStep}
 use Rattle.fat_ir.specs.declared.step.FatStep.TheVariants.{Const, Copy, Arith, Compare, Extend, Place, Make, Meet, Bound, Judge, Load, Store, LoadPtr, StorePtr, Label, Jump, JumpIf, Call, Service, Give}
@@ -130,9 +129,9 @@ place_of symbols None w = ObjectAt w.data_sp
 place_of symbols (Some symbol) w = symbols.located symbol
 
 -- an access that leaves its bounds by a value, or doesn't
-abbrev pub judged : Option ℕ → BoundsPair → PlaceOf → State → Reached
-judged None b place s = goes s
-judged (Some value) b place s = stops (Bounds value b (AtPlace place)) s
+abbrev pub judged : Option ℕ → BoundsPair → AccessOfC → State → Reached
+judged None b access s = goes s
+judged (Some value) b access s = stops (Bounds value b (AtAccess access)) s
 
 abbrev pub stop_by : Refusal → StopOfC
 stop_by (Strays at) = Strayed at
@@ -192,7 +191,7 @@ does symbols (Place to bounds symbol offset size) s = goes (with_pointer to boun
 does symbols (Make to p n) s = number_then (s.values p) (λ x. number_then (s.values n) (λ y. goes (with_pair to (bounds_at x y) s)))
 does symbols (Meet to a b) s = bounds_then (s.values a) (λ x. bounds_then (s.values b) (λ y. goes (with_pair to (met x y) s)))
 does symbols (Bound to from upper) s = bounds_then (s.values from) (λ b. goes (with_number to (if upper then b.ub else b.lb) s))
-does symbols (Judge value size bounds write place) s = number_then (s.values value) (λ p. bounds_then (s.values bounds) (λ b. judged (leaving_value p size b) b place s))
+does symbols (Judge value size bounds write place) s = number_then (s.values value) (λ p. bounds_then (s.values bounds) (λ b. judged (leaving_value p size b) b record { place = place; write = write; size = size } s))
 does symbols (Load p to kind) s = number_then (s.values p) (λ a. unless_refused (refusal false (size_of kind) a) s (number_loaded a to kind s))
 does symbols (Store p from kind) s = number_then (s.values p) (λ a. number_then (s.values from) (λ n. unless_refused (refusal true (size_of kind) a) s (number_stored a n kind s)))
 does symbols (LoadPtr p to bounds) s = number_then (s.values p) (λ a. unless_refused (refusal false 8 a) s (pointer_came to bounds (pointer_read s.world a) s))

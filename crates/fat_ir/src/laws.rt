@@ -4,7 +4,7 @@ ghost use Rattle.std.specs.Prelude.{◌≡◌, ◌≤◌, ℕ, Bool, true, false
 ghost use Rattle.mx_base.specs.declared.limits.Bounds.{Bounds as BoundsPair};
 ghost use Rattle.mx_base.specs.declared.places.Place.{Place as PlaceOf};
 ghost use Rattle.mx_base.specs.Bounds.{is_outside, leaving_value, last_byte};
-ghost use Rattle.mx_base.specs.StopOfC.{Bounds, AtPlace};
+ghost use Rattle.mx_base.specs.StopOfC.{Bounds, AtAccess};
 ghost use Rattle.mx_base.specs.World.{World};
 ghost use Rattle.fat_ir.specs.declared.program.FatFun.{FatFun};
 ghost use Rattle.fat_ir.specs.declared.step.FatStep.{FatStep};
@@ -81,10 +81,10 @@ pub fn passes_join()
 {}
 
 /// A judgement is passed exactly where the access lies within its bounds, and then nothing has changed; else the program
-/// stops there with the value by which the access leaves them.
+/// stops there with the value by which the access leaves them, and with the access's place, kind and size.
 pub fn judgements_are_exact()
     ensures within { (symbols : Symbols) (value size bounds : ℕ) (write : Bool) (place : PlaceOf) (s : State) (p : ℕ) (b : BoundsPair) → s.values value ≡ Number p → s.values bounds ≡ Pair b → is_outside p size b ≡ false → does symbols (FatStep.Judge value size bounds write place) s ≡ On Next s }
-    ensures outside { (symbols : Symbols) (value size bounds : ℕ) (write : Bool) (place : PlaceOf) (s : State) (p leaving : ℕ) (b : BoundsPair) → s.values value ≡ Number p → s.values bounds ≡ Pair b → leaving_value p size b ≡ Some leaving → does symbols (FatStep.Judge value size bounds write place) s ≡ Over (Stops (Bounds leaving b (AtPlace place)) s.world) }
+    ensures outside { (symbols : Symbols) (value size bounds : ℕ) (write : Bool) (place : PlaceOf) (s : State) (p leaving : ℕ) (b : BoundsPair) → s.values value ≡ Number p → s.values bounds ≡ Pair b → leaving_value p size b ≡ Some leaving → does symbols (FatStep.Judge value size bounds write place) s ≡ Over (Stops (Bounds leaving b (AtAccess record { place = place; write = write; size = size })) s.world) }
     ensures passed { (symbols : Symbols) (value size bounds : ℕ) (write : Bool) (place : PlaceOf) (s t : State) (going : Going) → does symbols (FatStep.Judge value size bounds write place) s ≡ On going t → (p : ℕ) × ((b : BoundsPair) × (s.values value ≡ Number p) × (s.values bounds ≡ Pair b) × (b.lb ≤ p) × (last_byte p size ≤ b.ub)) }
 {}
 

@@ -18,10 +18,10 @@ use Rattle.c_tree.specs.declared.tree.StmtKind.TheBlock.{shape-the_row-Stmt-0, h
 use Rattle.bounds_plan.proofs.Laid.{elaborations_same, elaborated_laid}
 use Rattle.bounds_plan.specs.ElaborateFunctions.{gone_by}
 use Rattle.std.specs.Prelude.{codes}
-use Rattle.mx_base.specs.StopOfC.{Exit, Bounds, OutOfTurns, Divide, StackOver, Unmapped, AtPlace}
+use Rattle.mx_base.specs.StopOfC.{Exit, Bounds, OutOfTurns, Divide, StackOver, Unmapped, read_of, write_of}
 use Rattle.bounds_plan.specs.WorkedSources.{copies_pointers, counts, descends_1, descends_2, divides_by_0, fills_block, frees_twice, keeps_pointer, prints_7, prints_members, reads_last_byte, reads_past_end, spoils_pointer, spreads_pointers, writes_element_3, writes_element_4}
-use Rattle.bounds_plan.specs.WorkedRuns.{runs_of, steps_run_of, data_of, narrowing, not_narrowing}
-use Rattle.bounds_plan.specs.Worked.{ends, read, written, pair, at, array_and_pointer, first_object, pairs_of_pointers}
+use Rattle.bounds_plan.specs.WorkedRuns.{runs_of, steps_run_of, data_of}
+use Rattle.bounds_plan.specs.Worked.{ends, narrowing, not_narrowing, read, written, pair, at, array_and_pointer, first_object, pairs_of_pointers}
 use Rattle.bounds_plan.proofs.sources.small_sources_mean_so.Goals as goal
 
 prints_laid : runs_of (elaborated_laid prints_7.tree prints_7.meanings prints_7.layout narrowing) prints_7.layout.functions first_object (data_of prints_7 first_object) 4096 0 [] 10 ≡ ends (Exit 0) (codes "7\n") 8 [] []
@@ -46,44 +46,44 @@ inside_steps_laid = refl
 pub returns-clause-inside : goal.returns-clause-inside
 returns-clause-inside c = (ap (λ e. runs_of (e writes_element_3.tree writes_element_3.meanings writes_element_3.layout narrowing) writes_element_3.layout.functions first_object (data_of writes_element_3 first_object) 4096 0 [] 10) elaborations_same ∙ inside_laid, ap (λ e. steps_run_of (e writes_element_3.tree writes_element_3.meanings writes_element_3.layout narrowing) writes_element_3.layout.functions first_object (data_of writes_element_3 first_object) 4096 0 10) elaborations_same ∙ inside_steps_laid)
 
-first_byte_outside_laid : runs_of (elaborated_laid writes_element_4.tree writes_element_4.meanings writes_element_4.layout narrowing) writes_element_4.layout.functions first_object (data_of writes_element_4 first_object) 4096 0 [] 10 ≡ ends (Bounds 0x2000_0004 (pair 0x2000_0000 0x2000_0003) (AtPlace (at 2 17))) [] 9 [] []
+first_byte_outside_laid : runs_of (elaborated_laid writes_element_4.tree writes_element_4.meanings writes_element_4.layout narrowing) writes_element_4.layout.functions first_object (data_of writes_element_4 first_object) 4096 0 [] 10 ≡ ends (Bounds 0x2000_0004 (pair 0x2000_0000 0x2000_0003) (write_of 1 (at 2 17))) [] 9 [] []
 unfolding residue as_signed number_of value_of wrapped word_of extended arithmetic compares word_arithmetic word_compares moved last_byte leaving_value bounds_at is_sealed is_open_to_read is_open_to_write number_at with_number first_refused first_refused_around refusal touched_with keep_bounds load_bounds bounds_for rounded allocated freed served c_service pointer_written pointer_read digits stepped arithmetic_at comparison_at shape-the_row-Expr-0 hidden-the_row-Expr-0 shown-the_row-Expr-0 shape-the_row-Expr-1 hidden-the_row-Expr-1 shown-the_row-Expr-1 shape-the_row-Init-0 hidden-the_row-Init-0 shown-the_row-Init-0 shape-the_row-Stmt-0 hidden-the_row-Stmt-0 shown-the_row-Stmt-0 shape-the_row-Stmt-1 hidden-the_row-Stmt-1 shown-the_row-Stmt-1 hidden runs_of gone_by
 first_byte_outside_laid = refl
 
-first_byte_outside_steps_laid : steps_run_of (elaborated_laid writes_element_4.tree writes_element_4.meanings writes_element_4.layout narrowing) writes_element_4.layout.functions first_object (data_of writes_element_4 first_object) 4096 0 10 ≡ ends (Bounds 0x2000_0004 (pair 0x2000_0000 0x2000_0003) (AtPlace (at 2 17))) [] 9 [] []
+first_byte_outside_steps_laid : steps_run_of (elaborated_laid writes_element_4.tree writes_element_4.meanings writes_element_4.layout narrowing) writes_element_4.layout.functions first_object (data_of writes_element_4 first_object) 4096 0 10 ≡ ends (Bounds 0x2000_0004 (pair 0x2000_0000 0x2000_0003) (write_of 1 (at 2 17))) [] 9 [] []
 unfolding residue as_signed number_of value_of wrapped word_of extended arithmetic compares word_arithmetic word_compares moved last_byte leaving_value bounds_at is_sealed is_open_to_read is_open_to_write number_at with_number first_refused first_refused_around refusal touched_with keep_bounds load_bounds bounds_for rounded allocated freed served c_service pointer_written pointer_read digits stepped arithmetic_at comparison_at shape-the_row-Expr-0 hidden-the_row-Expr-0 shown-the_row-Expr-0 shape-the_row-Expr-1 hidden-the_row-Expr-1 shown-the_row-Expr-1 shape-the_row-Init-0 hidden-the_row-Init-0 shown-the_row-Init-0 shape-the_row-Stmt-0 hidden-the_row-Stmt-0 shown-the_row-Stmt-0 shape-the_row-Stmt-1 hidden-the_row-Stmt-1 shown-the_row-Stmt-1 hidden steps_run_of gone_by
 first_byte_outside_steps_laid = refl
 
 pub returns-clause-first_byte_outside : goal.returns-clause-first_byte_outside
 returns-clause-first_byte_outside c = (ap (λ e. runs_of (e writes_element_4.tree writes_element_4.meanings writes_element_4.layout narrowing) writes_element_4.layout.functions first_object (data_of writes_element_4 first_object) 4096 0 [] 10) elaborations_same ∙ first_byte_outside_laid, ap (λ e. steps_run_of (e writes_element_4.tree writes_element_4.meanings writes_element_4.layout narrowing) writes_element_4.layout.functions first_object (data_of writes_element_4 first_object) 4096 0 10) elaborations_same ∙ first_byte_outside_steps_laid)
 
-last_byte_outside_laid : runs_of (elaborated_laid reads_past_end.tree reads_past_end.meanings reads_past_end.layout narrowing) reads_past_end.layout.functions first_object (data_of reads_past_end first_object) 4096 0 [] 10 ≡ ends (Bounds 0x2000_0004 (pair 0x2000_0000 0x2000_0003) (AtPlace (at 2 24))) [] 9 [] []
+last_byte_outside_laid : runs_of (elaborated_laid reads_past_end.tree reads_past_end.meanings reads_past_end.layout narrowing) reads_past_end.layout.functions first_object (data_of reads_past_end first_object) 4096 0 [] 10 ≡ ends (Bounds 0x2000_0004 (pair 0x2000_0000 0x2000_0003) (read_of 4 (at 2 24))) [] 9 [] []
 unfolding residue as_signed number_of value_of wrapped word_of extended arithmetic compares word_arithmetic word_compares moved last_byte leaving_value bounds_at is_sealed is_open_to_read is_open_to_write number_at with_number first_refused first_refused_around refusal touched_with keep_bounds load_bounds bounds_for rounded allocated freed served c_service pointer_written pointer_read digits stepped arithmetic_at comparison_at shape-the_row-Expr-0 hidden-the_row-Expr-0 shown-the_row-Expr-0 shape-the_row-Expr-1 hidden-the_row-Expr-1 shown-the_row-Expr-1 shape-the_row-Init-0 hidden-the_row-Init-0 shown-the_row-Init-0 shape-the_row-Stmt-0 hidden-the_row-Stmt-0 shown-the_row-Stmt-0 shape-the_row-Stmt-1 hidden-the_row-Stmt-1 shown-the_row-Stmt-1 hidden runs_of gone_by
 last_byte_outside_laid = refl
 
-last_byte_outside_steps_laid : steps_run_of (elaborated_laid reads_past_end.tree reads_past_end.meanings reads_past_end.layout narrowing) reads_past_end.layout.functions first_object (data_of reads_past_end first_object) 4096 0 10 ≡ ends (Bounds 0x2000_0004 (pair 0x2000_0000 0x2000_0003) (AtPlace (at 2 24))) [] 9 [] []
+last_byte_outside_steps_laid : steps_run_of (elaborated_laid reads_past_end.tree reads_past_end.meanings reads_past_end.layout narrowing) reads_past_end.layout.functions first_object (data_of reads_past_end first_object) 4096 0 10 ≡ ends (Bounds 0x2000_0004 (pair 0x2000_0000 0x2000_0003) (read_of 4 (at 2 24))) [] 9 [] []
 unfolding residue as_signed number_of value_of wrapped word_of extended arithmetic compares word_arithmetic word_compares moved last_byte leaving_value bounds_at is_sealed is_open_to_read is_open_to_write number_at with_number first_refused first_refused_around refusal touched_with keep_bounds load_bounds bounds_for rounded allocated freed served c_service pointer_written pointer_read digits stepped arithmetic_at comparison_at shape-the_row-Expr-0 hidden-the_row-Expr-0 shown-the_row-Expr-0 shape-the_row-Expr-1 hidden-the_row-Expr-1 shown-the_row-Expr-1 shape-the_row-Init-0 hidden-the_row-Init-0 shown-the_row-Init-0 shape-the_row-Stmt-0 hidden-the_row-Stmt-0 shown-the_row-Stmt-0 shape-the_row-Stmt-1 hidden-the_row-Stmt-1 shown-the_row-Stmt-1 hidden steps_run_of gone_by
 last_byte_outside_steps_laid = refl
 
 pub returns-clause-last_byte_outside : goal.returns-clause-last_byte_outside
 returns-clause-last_byte_outside c = (ap (λ e. runs_of (e reads_past_end.tree reads_past_end.meanings reads_past_end.layout narrowing) reads_past_end.layout.functions first_object (data_of reads_past_end first_object) 4096 0 [] 10) elaborations_same ∙ last_byte_outside_laid, ap (λ e. steps_run_of (e reads_past_end.tree reads_past_end.meanings reads_past_end.layout narrowing) reads_past_end.layout.functions first_object (data_of reads_past_end first_object) 4096 0 10) elaborations_same ∙ last_byte_outside_steps_laid)
 
-block_laid : runs_of (elaborated_laid fills_block.tree fills_block.meanings fills_block.layout narrowing) fills_block.layout.functions first_object (data_of fills_block first_object) 4096 0 [] 20 ≡ ends (Bounds 0x3000_0009 (pair 0x3000_0000 0x3000_0008) (AtPlace (at 2 20))) (codes "0\n1\n2\n3\n4\n5\n6\n7\n8\n") 10 (written 0x3000_0000 1 ∷ read 0x3000_0000 1 ∷ written 0x3000_0001 1 ∷ read 0x3000_0001 1 ∷ written 0x3000_0002 1 ∷ read 0x3000_0002 1 ∷ written 0x3000_0003 1 ∷ read 0x3000_0003 1 ∷ written 0x3000_0004 1 ∷ read 0x3000_0004 1 ∷ written 0x3000_0005 1 ∷ read 0x3000_0005 1 ∷ written 0x3000_0006 1 ∷ read 0x3000_0006 1 ∷ written 0x3000_0007 1 ∷ read 0x3000_0007 1 ∷ written 0x3000_0008 1 ∷ read 0x3000_0008 1 ∷ []) []
+block_laid : runs_of (elaborated_laid fills_block.tree fills_block.meanings fills_block.layout narrowing) fills_block.layout.functions first_object (data_of fills_block first_object) 4096 0 [] 20 ≡ ends (Bounds 0x3000_0009 (pair 0x3000_0000 0x3000_0008) (write_of 1 (at 2 20))) (codes "0\n1\n2\n3\n4\n5\n6\n7\n8\n") 10 (written 0x3000_0000 1 ∷ read 0x3000_0000 1 ∷ written 0x3000_0001 1 ∷ read 0x3000_0001 1 ∷ written 0x3000_0002 1 ∷ read 0x3000_0002 1 ∷ written 0x3000_0003 1 ∷ read 0x3000_0003 1 ∷ written 0x3000_0004 1 ∷ read 0x3000_0004 1 ∷ written 0x3000_0005 1 ∷ read 0x3000_0005 1 ∷ written 0x3000_0006 1 ∷ read 0x3000_0006 1 ∷ written 0x3000_0007 1 ∷ read 0x3000_0007 1 ∷ written 0x3000_0008 1 ∷ read 0x3000_0008 1 ∷ []) []
 unfolding residue as_signed number_of value_of wrapped word_of extended arithmetic compares word_arithmetic word_compares moved last_byte leaving_value bounds_at is_sealed is_open_to_read is_open_to_write number_at with_number first_refused first_refused_around refusal touched_with keep_bounds load_bounds bounds_for rounded allocated freed served c_service pointer_written pointer_read digits stepped arithmetic_at comparison_at shape-the_row-Expr-0 hidden-the_row-Expr-0 shown-the_row-Expr-0 shape-the_row-Expr-1 hidden-the_row-Expr-1 shown-the_row-Expr-1 shape-the_row-Init-0 hidden-the_row-Init-0 shown-the_row-Init-0 shape-the_row-Stmt-0 hidden-the_row-Stmt-0 shown-the_row-Stmt-0 shape-the_row-Stmt-1 hidden-the_row-Stmt-1 shown-the_row-Stmt-1 hidden runs_of gone_by
 block_laid = refl
 
-block_steps_laid : steps_run_of (elaborated_laid fills_block.tree fills_block.meanings fills_block.layout narrowing) fills_block.layout.functions first_object (data_of fills_block first_object) 4096 0 20 ≡ ends (Bounds 0x3000_0009 (pair 0x3000_0000 0x3000_0008) (AtPlace (at 2 20))) (codes "0\n1\n2\n3\n4\n5\n6\n7\n8\n") 10 (written 0x3000_0000 1 ∷ read 0x3000_0000 1 ∷ written 0x3000_0001 1 ∷ read 0x3000_0001 1 ∷ written 0x3000_0002 1 ∷ read 0x3000_0002 1 ∷ written 0x3000_0003 1 ∷ read 0x3000_0003 1 ∷ written 0x3000_0004 1 ∷ read 0x3000_0004 1 ∷ written 0x3000_0005 1 ∷ read 0x3000_0005 1 ∷ written 0x3000_0006 1 ∷ read 0x3000_0006 1 ∷ written 0x3000_0007 1 ∷ read 0x3000_0007 1 ∷ written 0x3000_0008 1 ∷ read 0x3000_0008 1 ∷ []) []
+block_steps_laid : steps_run_of (elaborated_laid fills_block.tree fills_block.meanings fills_block.layout narrowing) fills_block.layout.functions first_object (data_of fills_block first_object) 4096 0 20 ≡ ends (Bounds 0x3000_0009 (pair 0x3000_0000 0x3000_0008) (write_of 1 (at 2 20))) (codes "0\n1\n2\n3\n4\n5\n6\n7\n8\n") 10 (written 0x3000_0000 1 ∷ read 0x3000_0000 1 ∷ written 0x3000_0001 1 ∷ read 0x3000_0001 1 ∷ written 0x3000_0002 1 ∷ read 0x3000_0002 1 ∷ written 0x3000_0003 1 ∷ read 0x3000_0003 1 ∷ written 0x3000_0004 1 ∷ read 0x3000_0004 1 ∷ written 0x3000_0005 1 ∷ read 0x3000_0005 1 ∷ written 0x3000_0006 1 ∷ read 0x3000_0006 1 ∷ written 0x3000_0007 1 ∷ read 0x3000_0007 1 ∷ written 0x3000_0008 1 ∷ read 0x3000_0008 1 ∷ []) []
 unfolding residue as_signed number_of value_of wrapped word_of extended arithmetic compares word_arithmetic word_compares moved last_byte leaving_value bounds_at is_sealed is_open_to_read is_open_to_write number_at with_number first_refused first_refused_around refusal touched_with keep_bounds load_bounds bounds_for rounded allocated freed served c_service pointer_written pointer_read digits stepped arithmetic_at comparison_at shape-the_row-Expr-0 hidden-the_row-Expr-0 shown-the_row-Expr-0 shape-the_row-Expr-1 hidden-the_row-Expr-1 shown-the_row-Expr-1 shape-the_row-Init-0 hidden-the_row-Init-0 shown-the_row-Init-0 shape-the_row-Stmt-0 hidden-the_row-Stmt-0 shown-the_row-Stmt-0 shape-the_row-Stmt-1 hidden-the_row-Stmt-1 shown-the_row-Stmt-1 hidden steps_run_of gone_by
 block_steps_laid = refl
 
 pub returns-clause-block : goal.returns-clause-block
 returns-clause-block c = (ap (λ e. runs_of (e fills_block.tree fills_block.meanings fills_block.layout narrowing) fills_block.layout.functions first_object (data_of fills_block first_object) 4096 0 [] 20) elaborations_same ∙ block_laid, ap (λ e. steps_run_of (e fills_block.tree fills_block.meanings fills_block.layout narrowing) fills_block.layout.functions first_object (data_of fills_block first_object) 4096 0 20) elaborations_same ∙ block_steps_laid)
 
-pointer_back_laid : runs_of (elaborated_laid keeps_pointer.tree keeps_pointer.meanings keeps_pointer.layout narrowing) keeps_pointer.layout.functions array_and_pointer (data_of keeps_pointer array_and_pointer) 4096 0 [] 10 ≡ ends (Bounds 0x2000_0004 (pair 0x2000_0000 0x2000_0003) (AtPlace (at 4 1))) [] 9 (written 0x2000_0008 8 ∷ read 0x2000_0008 1 ∷ written 0x2000_0008 1 ∷ read 0x2000_0008 1 ∷ written 0x2000_0008 1 ∷ read 0x2000_0008 8 ∷ []) (0x200 ∷ [])
+pointer_back_laid : runs_of (elaborated_laid keeps_pointer.tree keeps_pointer.meanings keeps_pointer.layout narrowing) keeps_pointer.layout.functions array_and_pointer (data_of keeps_pointer array_and_pointer) 4096 0 [] 10 ≡ ends (Bounds 0x2000_0004 (pair 0x2000_0000 0x2000_0003) (write_of 1 (at 4 1))) [] 9 (written 0x2000_0008 8 ∷ read 0x2000_0008 1 ∷ written 0x2000_0008 1 ∷ read 0x2000_0008 1 ∷ written 0x2000_0008 1 ∷ read 0x2000_0008 8 ∷ []) (0x200 ∷ [])
 unfolding residue as_signed number_of value_of wrapped word_of extended arithmetic compares word_arithmetic word_compares moved last_byte leaving_value bounds_at is_sealed is_open_to_read is_open_to_write number_at with_number first_refused first_refused_around refusal touched_with keep_bounds load_bounds bounds_for rounded allocated freed served c_service pointer_written pointer_read digits stepped arithmetic_at comparison_at shape-the_row-Expr-0 hidden-the_row-Expr-0 shown-the_row-Expr-0 shape-the_row-Expr-1 hidden-the_row-Expr-1 shown-the_row-Expr-1 shape-the_row-Init-0 hidden-the_row-Init-0 shown-the_row-Init-0 shape-the_row-Stmt-0 hidden-the_row-Stmt-0 shown-the_row-Stmt-0 shape-the_row-Stmt-1 hidden-the_row-Stmt-1 shown-the_row-Stmt-1 hidden runs_of gone_by
 pointer_back_laid = refl
 
-pointer_back_steps_laid : steps_run_of (elaborated_laid keeps_pointer.tree keeps_pointer.meanings keeps_pointer.layout narrowing) keeps_pointer.layout.functions array_and_pointer (data_of keeps_pointer array_and_pointer) 4096 0 10 ≡ ends (Bounds 0x2000_0004 (pair 0x2000_0000 0x2000_0003) (AtPlace (at 4 1))) [] 9 (written 0x2000_0008 8 ∷ read 0x2000_0008 1 ∷ written 0x2000_0008 1 ∷ read 0x2000_0008 1 ∷ written 0x2000_0008 1 ∷ read 0x2000_0008 8 ∷ []) (0x200 ∷ [])
+pointer_back_steps_laid : steps_run_of (elaborated_laid keeps_pointer.tree keeps_pointer.meanings keeps_pointer.layout narrowing) keeps_pointer.layout.functions array_and_pointer (data_of keeps_pointer array_and_pointer) 4096 0 10 ≡ ends (Bounds 0x2000_0004 (pair 0x2000_0000 0x2000_0003) (write_of 1 (at 4 1))) [] 9 (written 0x2000_0008 8 ∷ read 0x2000_0008 1 ∷ written 0x2000_0008 1 ∷ read 0x2000_0008 1 ∷ written 0x2000_0008 1 ∷ read 0x2000_0008 8 ∷ []) (0x200 ∷ [])
 unfolding residue as_signed number_of value_of wrapped word_of extended arithmetic compares word_arithmetic word_compares moved last_byte leaving_value bounds_at is_sealed is_open_to_read is_open_to_write number_at with_number first_refused first_refused_around refusal touched_with keep_bounds load_bounds bounds_for rounded allocated freed served c_service pointer_written pointer_read digits stepped arithmetic_at comparison_at shape-the_row-Expr-0 hidden-the_row-Expr-0 shown-the_row-Expr-0 shape-the_row-Expr-1 hidden-the_row-Expr-1 shown-the_row-Expr-1 shape-the_row-Init-0 hidden-the_row-Init-0 shown-the_row-Init-0 shape-the_row-Stmt-0 hidden-the_row-Stmt-0 shown-the_row-Stmt-0 shape-the_row-Stmt-1 hidden-the_row-Stmt-1 shown-the_row-Stmt-1 hidden steps_run_of gone_by
 pointer_back_steps_laid = refl
 
@@ -145,11 +145,11 @@ not_narrowed_steps_laid = refl
 pub returns-clause-not_narrowed : goal.returns-clause-not_narrowed
 returns-clause-not_narrowed c = (ap (λ e. runs_of (e prints_members.tree prints_members.meanings prints_members.layout not_narrowing) prints_members.layout.functions first_object (data_of prints_members first_object) 4096 0 [] 10) elaborations_same ∙ not_narrowed_laid, ap (λ e. steps_run_of (e prints_members.tree prints_members.meanings prints_members.layout not_narrowing) prints_members.layout.functions first_object (data_of prints_members first_object) 4096 0 10) elaborations_same ∙ not_narrowed_steps_laid)
 
-struct_copied_laid : runs_of (elaborated_laid copies_pointers.tree copies_pointers.meanings copies_pointers.layout narrowing) copies_pointers.layout.functions pairs_of_pointers (data_of copies_pointers pairs_of_pointers) 4096 0 [] 10 ≡ ends (Bounds 0x2000_0006 (pair 0x2000_0004 0x2000_0005) (AtPlace (at 4 1))) [] 9 (written 0x2000_0008 8 ∷ written 0x2000_0010 8 ∷ read 0x2000_0008 8 ∷ written 0x2000_0018 8 ∷ read 0x2000_0010 8 ∷ written 0x2000_0020 8 ∷ read 0x2000_0018 8 ∷ written 0x2000_0003 1 ∷ read 0x2000_0020 8 ∷ []) (0x200 ∷ [])
+struct_copied_laid : runs_of (elaborated_laid copies_pointers.tree copies_pointers.meanings copies_pointers.layout narrowing) copies_pointers.layout.functions pairs_of_pointers (data_of copies_pointers pairs_of_pointers) 4096 0 [] 10 ≡ ends (Bounds 0x2000_0006 (pair 0x2000_0004 0x2000_0005) (write_of 1 (at 4 1))) [] 9 (written 0x2000_0008 8 ∷ written 0x2000_0010 8 ∷ read 0x2000_0008 8 ∷ written 0x2000_0018 8 ∷ read 0x2000_0010 8 ∷ written 0x2000_0020 8 ∷ read 0x2000_0018 8 ∷ written 0x2000_0003 1 ∷ read 0x2000_0020 8 ∷ []) (0x200 ∷ [])
 unfolding residue as_signed number_of value_of wrapped word_of extended arithmetic compares word_arithmetic word_compares moved last_byte leaving_value bounds_at is_sealed is_open_to_read is_open_to_write number_at with_number first_refused first_refused_around refusal touched_with keep_bounds load_bounds bounds_for rounded allocated freed served c_service pointer_written pointer_read digits stepped arithmetic_at comparison_at shape-the_row-Expr-0 hidden-the_row-Expr-0 shown-the_row-Expr-0 shape-the_row-Expr-1 hidden-the_row-Expr-1 shown-the_row-Expr-1 shape-the_row-Init-0 hidden-the_row-Init-0 shown-the_row-Init-0 shape-the_row-Stmt-0 hidden-the_row-Stmt-0 shown-the_row-Stmt-0 shape-the_row-Stmt-1 hidden-the_row-Stmt-1 shown-the_row-Stmt-1 hidden runs_of gone_by
 struct_copied_laid = refl
 
-struct_copied_steps_laid : steps_run_of (elaborated_laid copies_pointers.tree copies_pointers.meanings copies_pointers.layout narrowing) copies_pointers.layout.functions pairs_of_pointers (data_of copies_pointers pairs_of_pointers) 4096 0 10 ≡ ends (Bounds 0x2000_0006 (pair 0x2000_0004 0x2000_0005) (AtPlace (at 4 1))) [] 9 (written 0x2000_0008 8 ∷ written 0x2000_0010 8 ∷ read 0x2000_0008 8 ∷ written 0x2000_0018 8 ∷ read 0x2000_0010 8 ∷ written 0x2000_0020 8 ∷ read 0x2000_0018 8 ∷ written 0x2000_0003 1 ∷ read 0x2000_0020 8 ∷ []) (0x200 ∷ [])
+struct_copied_steps_laid : steps_run_of (elaborated_laid copies_pointers.tree copies_pointers.meanings copies_pointers.layout narrowing) copies_pointers.layout.functions pairs_of_pointers (data_of copies_pointers pairs_of_pointers) 4096 0 10 ≡ ends (Bounds 0x2000_0006 (pair 0x2000_0004 0x2000_0005) (write_of 1 (at 4 1))) [] 9 (written 0x2000_0008 8 ∷ written 0x2000_0010 8 ∷ read 0x2000_0008 8 ∷ written 0x2000_0018 8 ∷ read 0x2000_0010 8 ∷ written 0x2000_0020 8 ∷ read 0x2000_0018 8 ∷ written 0x2000_0003 1 ∷ read 0x2000_0020 8 ∷ []) (0x200 ∷ [])
 unfolding residue as_signed number_of value_of wrapped word_of extended arithmetic compares word_arithmetic word_compares moved last_byte leaving_value bounds_at is_sealed is_open_to_read is_open_to_write number_at with_number first_refused first_refused_around refusal touched_with keep_bounds load_bounds bounds_for rounded allocated freed served c_service pointer_written pointer_read digits stepped arithmetic_at comparison_at shape-the_row-Expr-0 hidden-the_row-Expr-0 shown-the_row-Expr-0 shape-the_row-Expr-1 hidden-the_row-Expr-1 shown-the_row-Expr-1 shape-the_row-Init-0 hidden-the_row-Init-0 shown-the_row-Init-0 shape-the_row-Stmt-0 hidden-the_row-Stmt-0 shown-the_row-Stmt-0 shape-the_row-Stmt-1 hidden-the_row-Stmt-1 shown-the_row-Stmt-1 hidden steps_run_of gone_by
 struct_copied_steps_laid = refl
 

@@ -20,8 +20,8 @@ use Rattle.bounds_plan.specs.ElaborateFunctions.{gone_by}
 use Rattle.std.specs.Prelude.{codes}
 use Rattle.mx_base.specs.StopOfC.{OutOfTurns}
 use Rattle.bounds_plan.specs.WorkedSources.{copies_pointers, descends_1, descends_2, divides_by_0, fills_block, frees_twice, keeps_pointer, prints_7, prints_members, reads_last_byte, reads_past_end, spoils_pointer, spreads_pointers, writes_element_3, writes_element_4}
-use Rattle.bounds_plan.specs.WorkedRuns.{runs_of, steps_run_of, data_of, narrowing, not_narrowing}
-use Rattle.bounds_plan.specs.Worked.{ends, read, written, array_and_pointer, first_object, pairs_of_pointers}
+use Rattle.bounds_plan.specs.WorkedRuns.{runs_of, steps_run_of, data_of}
+use Rattle.bounds_plan.specs.Worked.{ends, narrowing, not_narrowing, read, written, array_and_pointer, first_object, pairs_of_pointers}
 use Rattle.bounds_plan.proofs.sources.small_sources_run_out_so.Goals as goal
 
 prints_laid : runs_of (elaborated_laid prints_7.tree prints_7.meanings prints_7.layout narrowing) prints_7.layout.functions first_object (data_of prints_7 first_object) 4096 0 [] 1 ≡ ends OutOfTurns (codes "7\n") 0 [] []

@@ -20,7 +20,8 @@ use Rattle.bounds_plan.specs.ElaborateFunctions.{gone_by}
 use Rattle.std.specs.Prelude.{codes}
 use Rattle.mx_base.specs.StopOfC.{Exit}
 use Rattle.bounds_plan.specs.WorkedForms.{calculates, changes, points, fills, goes_round, adds_in_order}
-use Rattle.bounds_plan.specs.WorkedRuns.{runs_of, steps_run_of, data_of, said, saying, narrowing, objects_apart}
+use Rattle.bounds_plan.specs.Worked.{narrowing}
+use Rattle.bounds_plan.specs.WorkedRuns.{runs_of, steps_run_of, data_of, said, saying, objects_apart}
 use Rattle.bounds_plan.proofs.sources.sources_with_every_form_say_so.Goals as goal
 
 calculates_laid : said (runs_of (elaborated_laid calculates.tree calculates.meanings calculates.layout narrowing) calculates.layout.functions objects_apart (data_of calculates objects_apart) 4096 0 [] 1000) ≡ saying (Exit 44) (codes "-56\n200\n4464\n4294967295\n0\n-3\n-1\n-4\n268435455\n-11200\n2\n1\n1\n6\n-200\n0\n1\n-1\n4294967295\n15\n4294967240\n2147483648\n205\n1\n0\n0\n")

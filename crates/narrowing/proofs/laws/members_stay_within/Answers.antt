@@ -1,5 +1,5 @@
 use Rattle.narrowing.proofs.Within.{member-within, member-narrowed}
-use Rattle.narrowing.proofs.member.members_stay_within.Goals as goal
+use Rattle.narrowing.proofs.laws.members_stay_within.Goals as goal
 
 pub returns-clause-within : goal.returns-clause-within
 returns-clause-within c = member-within
