@@ -2,26 +2,16 @@
 #![tactic(auto)]
 
 ghost use Rattle.std.specs.Prelude.{◌≡◌, IsTrue, IfErr};
-ghost use Rattle.mpx_main.specs.Ends.{refusal_of, ends_words};
+ghost use Rattle.mpx_words.specs.Ends.{refusal_of, ends_words};
 
-mod end;
-mod exec;
-mod line;
-mod options;
 mod real;
-mod report;
-mod run;
-mod sink;
-mod source_file;
-mod stop_line;
 #[cfg(test)]
 mod tests;
-mod word;
 
-use end::End;
+use mpx_words::end::End;
+use mpx_words::report::report;
+use mpx_words::run::run_words;
 use real::{RealFiles, RealSink, RealSource};
-use report::report;
-use run::run_words;
 use std::env;
 use std::io::ErrorKind;
 use std::process::ExitCode;

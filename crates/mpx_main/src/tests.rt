@@ -2,8 +2,8 @@
 ghost use Rattle.mx_base.specs.Outside.{Untold};
 
 use crate::real::{RealFiles, RealSink, RealSource};
-use crate::run::run_words;
 use c_reader::read_early;
+use mpx_words::run::run_words;
 use mx_base::{Failed, Files, MemFiles, MemSink, MemSource, Sink, Source};
 use std::alloc::Global;
 use std::path::PathBuf;

@@ -1,5 +1,0 @@
-use Rattle.mpx_main.proofs.Images.{ran}
-use Rattle.mpx_main.proofs.exec.run_image.Goals as goal
-
-pub returns-in-Ok-clause-runs : goal.returns-in-Ok-clause-runs
-returns-in-Ok-clause-runs g c = ran _ _ _ c.in-Ok.ensures _ _ _ _ _ _ c.run.ensures.runs c.run.ensures.frames
