@@ -5,3 +5,5 @@ pub mod Numbers
 pub mod Regions
 pub mod View
 pub mod Answered
+pub mod KnownPages
+pub mod KnownCalls

@@ -104,6 +104,11 @@ has_page-touched_by (suc n) a p pages below =
     ∙ has_page-touched_other p (a / 4096) pages (omega arith)
 
 -- a piece of one page is there, or one page more
+-- a page that was touched is touched already
+pub piece_old : (n a : ℕ) (pages : List ℕ) → 0 < n → a % 4096 + n ≤ 4096 → has_page pages (a / 4096) ≡ true → touched_by n a pages ≡ pages
+piece_old zero a pages some inside has = absurd (omega arith)
+piece_old (suc n) a pages some inside has = touched_by-piece n a pages inside ∙ touched_with-old (a / 4096) pages has
+
 pub length-piece_old : (n a : ℕ) (pages : List ℕ) → 0 < n → a % 4096 + n ≤ 4096 → has_page pages (a / 4096) ≡ true → length (touched_by n a pages) ≡ length pages
 length-piece_old zero a pages some inside here = absurd (omega arith)
 length-piece_old (suc n) a pages some inside here = ap length (touched_by-piece n a pages inside ∙ touched_with-old (a / 4096) pages here)

@@ -1,5 +1,5 @@
 -- Which of some addresses is the first that no region allows.
-use Rattle.std.proofs.Common.{◌≡◌, ℕ, zero, suc, ◌+◌, ◌-◌, ◌<◌, ◌≤◌, min, Bool, true, false, cond, ◌&&◌, ◌||◌, nat_lt, Option, None, Some, List, [], ◌∷◌, refl, sym, ap, ◌∙◌, subst, arith, inl, inr}
+use Rattle.std.proofs.Common.{◌≡◌, ℕ, zero, suc, ◌+◌, ◌-◌, ◌/◌, ◌%◌, ◌<◌, ◌≤◌, min, Bool, true, false, cond, ◌&&◌, ◌||◌, nat_lt, nat_le, Option, None, Some, List, [], ◌∷◌, refl, sym, ap, ◌∙◌, subst, arith, inl, inr}
 use Rattle.std.specs.List.{list_any}
 use Rattle.std.proofs.lemmas.Bool.Decides.{nat_tests}
 use Rattle.std.proofs.lemmas.Bool.{cases_lt}
@@ -13,7 +13,7 @@ unfolding first_refused
 refused-here test zero a some e = absurd (omega arith)
 refused-here test (suc n) a some e = rw e refl
 
-refused-none : (test : ℕ → Bool) (n a : ℕ) → ((x : ℕ) → a ≤ x → x < a + n → test x ≡ true) → first_refused test n a ≡ None
+pub refused-none : (test : ℕ → Bool) (n a : ℕ) → ((x : ℕ) → a ≤ x → x < a + n → test x ≡ true) → first_refused test n a ≡ None
 unfolding first_refused
 refused-none test zero a all = refl
 refused-none test (suc n) a all = rw (all a (omega arith) (omega arith)) (refused-none test n (a + 1) (λ x from below. all x (omega arith) (omega arith)))
@@ -72,6 +72,10 @@ covers test (r ∷ rs) a = elim (test r && is_in r a) as (λ b. (test r && is_in
   | false ↦ λ e. let rest = covers test rs a in (rest.0, λ x from below. or_right (test r && is_in r x) (lies_among test rs x) (rest.1 x from below))
 ] refl
 
+or_second : (b c : Bool) → ((b && false) || c) ≡ true → c ≡ true
+or_second true c e = e
+or_second false c e = e
+
 -- no region of a list that the test passes begins where one ends
 abbrev EndsFree : (Region → Bool) → List Region → List Region → Type 0
 EndsFree test [] all = Unit {0}
@@ -109,6 +113,42 @@ executable_end a = over (λ r. r.execute) regions regions a (refl, (refl, (refl,
 reaches : (a : ℕ) → a < run_end (λ r. r.execute) a → is_executable a ≡ true
 unfolding is_executable run_end
 reaches a below = (covers (λ r. r.execute) regions a).1 a (omega arith) below
+
+-- an address below its region's end can be written
+pub writable_below : (a : ℕ) → a < run_end (λ r. r.write) a → is_writable a ≡ true
+unfolding is_writable run_end
+writable_below a below = (covers (λ r. r.write) regions a).1 a (omega arith) below
+
+-- regions begin and end with pages, so that one address of a page tells of all
+aligned : (r : Region) (a x : ℕ) → r.from % 4096 ≡ 0 → r.size % 4096 ≡ 0 → x / 4096 ≡ a / 4096 → is_in r x ≡ is_in r a
+aligned r a x from size same =
+    let low : nat_le r.from x ≡ nat_le r.from a = grind (arith, nat_tests) in
+    let high : nat_lt x (r.from + r.size) ≡ nat_lt a (r.from + r.size) = grind (arith, nat_tests) in
+    λ i. low i && high i
+
+abbrev AreAligned : List Region → Type 0
+AreAligned [] = Unit {0}
+AreAligned (r ∷ rs) = (r.from % 4096 ≡ 0) × ((r.size % 4096 ≡ 0) × AreAligned rs)
+
+same_in_page : (test : Region → Bool) (rs : List Region) (a x : ℕ) → AreAligned rs → x / 4096 ≡ a / 4096 → lies_among test rs x ≡ lies_among test rs a
+same_in_page test [] a x all same = refl
+same_in_page test (r ∷ rs) a x all same = λ i. (test r && aligned r a x all.0 all.1.0 same i) || same_in_page test rs a x all.1.1 same i
+
+pub writable_in_page : (a x : ℕ) → x / 4096 ≡ a / 4096 → is_writable x ≡ is_writable a
+unfolding is_writable
+writable_in_page a x same =
+    same_in_page (λ r. r.write) regions a x (refl, (refl, (refl, (refl, (refl, (refl, (refl, (refl, (refl, (refl, (refl, (refl, (refl, (refl, (refl, (refl, (refl, (refl, (refl, (refl, tt)))))))))))))))))))) same
+
+lies_weaker : (test : Region → Bool) (rs : List Region) (a : ℕ) → lies_among test rs a ≡ true → lies_among (λ r. true) rs a ≡ true
+lies_weaker test [] a e = e
+lies_weaker test (r ∷ rs) a e = elim (is_in r a) as (λ b. ((test r && b) || lies_among test rs a) ≡ true → (b || lies_among (λ r. true) rs a) ≡ true) [
+  | true ↦ λ h. refl
+  | false ↦ λ h. lies_weaker test rs a (or_second (test r) (lies_among test rs a) h)
+] e
+
+pub readable_writable : (a : ℕ) → is_writable a ≡ true → is_readable a ≡ true
+unfolding is_writable is_readable
+readable_writable a e = lies_weaker (λ r. r.write) regions a e
 
 -- an address is executable exactly where its region reaches past it
 pub executable_by_end : (a : ℕ) → is_executable a ≡ nat_lt a (run_end (λ r. r.execute) a)

@@ -1,14 +1,14 @@
 -- Slots by page: which frame a page has, and a page that gets one.
 use Rattle.std.specs.List.{insert, find}
 use Rattle.std.specs.Option.{is_some}
-use Rattle.std.proofs.Common.{◌≡◌, ◌≢◌, ◌⊎◌, ℕ, zero, suc, ◌+◌, ◌*◌, ◌/◌, ◌%◌, ◌<◌, ◌≤◌, nat_lt, nat_le, Bool, true, false, cond, not, ◌||◌, ◌==◌, Option, None, Some, List, [], ◌∷◌, length, get_or, refl, sym, ap, ◌∙◌, arith, inl, inr}
-use Rattle.std.proofs.lemmas.List.{length-map}
+use Rattle.std.proofs.Common.{◌≡◌, ◌≢◌, ◌⊎◌, ℕ, zero, suc, ◌+◌, ◌*◌, ◌/◌, ◌%◌, ◌^◌, ◌<◌, ◌≤◌, nat_lt, nat_le, Bool, true, false, cond, not, ◌||◌, ◌==◌, Option, None, Some, List, [], ◌∷◌, length, get_or, replicate, refl, sym, ap, ◌∙◌, subst, arith, inl, inr}
+use Rattle.std.proofs.lemmas.List.{length-map, length-replicate}
 use Rattle.std.specs.List.Sorted.{IsPartitionPoint}
 use Rattle.std.specs.Prelude.{slice_index}
 use Rattle.std.proofs.lemmas.Bool.Decides.{eqb_tells, nat_tests}
 use Rattle.paged_memory.specs.declared.slots.Slot.{Slot}
 use Rattle.paged_memory.specs.Touched.{has_page, page_placed, touched_with}
-use Rattle.paged_memory.specs.Frames.{frame_in, frame_number, pages_in, slot_placed, AreByPage, byte_in, byte_under, IsSound, HasFrame, put_at}
+use Rattle.paged_memory.specs.Frames.{frame_in, frame_number, pages_in, slot_placed, AreByPage, byte_in, byte_under, IsSound, KeepsFrames, HasFrame, put_at}
 use Rattle.paged_memory.proofs.PageLists.{touched_with-old, touched_with-new, length-page_placed}
 use Rattle.paged_memory.proofs.PageBytes.{length-put_at, put_at_above}
 
@@ -198,7 +198,7 @@ none_of : (o : Option ℕ) (b : Bool) → o ≡ None → is_some o ≡ b → b �
 none_of None b e h = sym h
 none_of (Some x) b e h = absurd (cc)
 
-some_has : (o : Option ℕ) (f : ℕ) (b : Bool) → o ≡ Some f → is_some o ≡ b → b ≡ true
+pub some_has : (o : Option ℕ) (f : ℕ) (b : Bool) → o ≡ Some f → is_some o ≡ b → b ≡ true
 some_has None f b e h = absurd (cc)
 some_has (Some x) f b e h = sym h
 
@@ -208,12 +208,19 @@ there_placed slots n away = elim (eqb_tells n.page n.page) [
   | inr other ↦ absurd (other.1 refl)
 ]
 
+kept_placed : (slots : List Slot) (n : Slot) → frame_in slots n.page ≡ None → KeepsFrames slots (slot_placed n slots)
+kept_placed slots n away p f there = elim (eqb_tells n.page p) [
+  | inl same ↦ (let clash : Some f ≡ None = sym there ∙ ap (frame_in slots) (sym same.1) ∙ away in absurd (cc))
+  | inr other ↦ frame_in-slot_placed n slots p away ∙ (rw other.0 there)
+]
+
 pub has_new_frame : (slots : List Slot) (page : ℕ) → frame_in slots page ≡ None
     → HasFrame slots (slot_placed record { page = page; frame = length slots } slots) page (length slots)
 has_new_frame slots page away =
     let n : Slot = record { page = page; frame = length slots } in
     record {
       there = there_placed slots (record { page = page; frame = length slots }) away;
+      kept = kept_placed slots (record { page = page; frame = length slots }) away;
       pages = pages_in-slot_placed (record { page = page; frame = length slots }) slots ∙ sym (touched_with-new page (pages_in slots) (none_of (frame_in slots page) (has_page (pages_in slots) page) away (frame_in_has slots page)));
       sound = sound_placed slots (record { page = page; frame = length slots }) refl away;
       same = bytes_placed slots (record { page = page; frame = length slots }) refl away;
@@ -222,6 +229,7 @@ has_new_frame slots page away =
 pub has_old_frame : (slots : List Slot) (page frame : ℕ) → frame_in slots page ≡ Some frame → HasFrame slots slots page frame
 has_old_frame slots page frame there = record {
   there = there;
+  kept = λ p f has. has;
   pages = sym (touched_with-old page (pages_in slots) (some_has (frame_in slots page) frame (has_page (pages_in slots) page) there (frame_in_has slots page)));
   sound = λ frames capacity sound few. sound;
   same = λ frames capacity sound. refl;
@@ -260,3 +268,23 @@ lie_within slots frames capacity p f sound there =
     let few = sound.few in
     let room = sound.room in
     omega (arith, low, few, room)
+
+-- no slots over zeros
+zeros_at : (n i : ℕ) → slice_index (replicate n 0) i ≡ 0
+zeros_at zero i = refl
+zeros_at (suc n) zero = refl
+zeros_at (suc n) (suc i) = zeros_at n i
+
+empty_sound : (bytes : List ℕ) (capacity : ℕ) → bytes ≡ replicate (capacity * 4096) 0 → capacity < 2 ^ 32 → IsSound [] bytes capacity
+empty_sound bytes capacity zeros fits = record {
+  room = ap length zeros ∙ length-replicate (capacity * 4096) 0;
+  few = omega arith;
+  fits = fits;
+  sorted = λ i j d up within. absurd (omega arith);
+  below = λ p f e. absurd (cc);
+  apart = λ p q f e also. absurd (cc);
+  clean = λ i above. ap (λ xs. slice_index xs i) zeros ∙ zeros_at (capacity * 4096) i;
+}
+
+pub sound_empty : (slots : List Slot) (bytes : List ℕ) (capacity : ℕ) → slots ≡ [] → bytes ≡ replicate (capacity * 4096) 0 → capacity < 2 ^ 32 → IsSound slots bytes capacity
+sound_empty slots bytes capacity none zeros fits = subst (λ (s : List Slot). IsSound s bytes capacity) (sym none) (empty_sound bytes capacity zeros fits)

@@ -1,5 +1,5 @@
 -- How pages and their frames stand for a memory. All but the last definitions speak of any one-to-one map from pages to frames.
-use Rattle.std.specs.Prelude.{◌≡◌, ℕ, ◌+◌, ◌*◌, ◌/◌, ◌%◌, ◌<◌, ◌≤◌, nat_lt, ◌==◌, if◌then◌else◌, List, [], ◌∷◌, ◌++◌, length, Option, Some, None, slice_index, map, take, drop, slice_range}
+use Rattle.std.specs.Prelude.{◌≡◌, ℕ, ◌+◌, ◌*◌, ◌/◌, ◌%◌, ◌^◌, ◌<◌, ◌≤◌, nat_lt, ◌==◌, if◌then◌else◌, List, [], ◌∷◌, ◌++◌, length, Option, Some, None, slice_index, map, take, drop, slice_range}
 use Rattle.std.specs.List.{find}
 use Rattle.std.specs.List.Sorted.{IsNonDecreasingBy}
 use Rattle.paged_memory.specs.declared.slots.Slot.{Slot}
@@ -53,15 +53,20 @@ slot_placed n (s ∷ ss) = if nat_lt n.page s.page then n ∷ s ∷ ss else s �
 pub record IsSound (slots : List Slot) (frames : List ℕ) (capacity : ℕ) : Type 0 where
   pub room : length frames ≡ capacity * 4096
   pub few : length slots ≤ capacity
-  pub fits : capacity ≤ 524288
+  pub fits : capacity < 2 ^ 32
   pub sorted : AreByPage slots
   pub below : (p f : ℕ) → frame_in slots p ≡ Some f → f < length slots
   pub apart : IsOneToOne (frame_in slots)
   pub clean : (i : ℕ) → length slots * 4096 ≤ i → slice_index frames i ≡ 0
 
+-- the pages that had a frame have it still
+abbrev pub KeepsFrames : List Slot → List Slot → Type 0
+KeepsFrames old new = (p f : ℕ) → frame_in old p ≡ Some f → frame_in new p ≡ Some f
+
 -- a page has a frame now, and no byte is another one
 pub record HasFrame (old new : List Slot) (page frame : ℕ) : Type 0 where
   pub there : frame_in new page ≡ Some frame
+  pub kept : KeepsFrames old new
   pub pages : pages_in new ≡ touched_with page (pages_in old)
   pub sound : (frames : List ℕ) (capacity : ℕ) → IsSound old frames capacity → length new ≤ capacity → IsSound new frames capacity
   pub same : (frames : List ℕ) (capacity : ℕ) → IsSound old frames capacity → byte_under (frame_in new) frames ≡ byte_under (frame_in old) frames

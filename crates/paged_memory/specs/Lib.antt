@@ -4,3 +4,4 @@ pub mod Paged
 pub mod Answers
 pub mod Frames
 pub mod Framed
+pub mod Known

@@ -2,7 +2,7 @@
 ghost use Rattle.std.specs.Prelude.{◌≡◌, ℕ, ◌+◌, ◌*◌, ◌/◌, ◌%◌, ◌^◌, ◌<◌, ◌≤◌, length, replicate, Some, vec_capacity};
 ghost use Rattle.mx_base.specs.Memory.{list_at, with_list};
 ghost use Rattle.paged_memory.specs.Touched.{touched_with, touched_by};
-ghost use Rattle.paged_memory.specs.Frames.{byte_under, frame_in, pages_in, AreByPage, LieWithin, IsSound, put_at};
+ghost use Rattle.paged_memory.specs.Frames.{byte_under, frame_in, pages_in, AreByPage, LieWithin, IsSound, KeepsFrames, put_at};
 
 use crate::slots::{Slot, frame_for, frame_of, piece};
 
@@ -48,7 +48,8 @@ pub fn copy_out(slots: &[Slot], frames: &[u8], a: u64, buf: &mut [u8])
     }
 }
 
-fn put_part(frames: &mut [u8], at: usize, bytes: &[u8])
+#[inline(always)]
+pub fn put_part(frames: &mut [u8], at: usize, bytes: &[u8])
     requires { at + length bytes.now ≤ length frames.old }
     ensures { frames.new ≡ put_at frames.old at bytes.now }
 {
@@ -65,6 +66,7 @@ fn put_page(slots: &mut Vec<Slot>, frames: &mut [u8], capacity: u32, a: u64, byt
     ensures reserved { vec_capacity slots.new ≡ capacity }
     ensures bytes { byte_under (frame_in slots.new.items) frames.new ≡ with_list (byte_under (frame_in slots.old.items) frames.old) a bytes.now }
     ensures pages { pages_in slots.new.items ≡ touched_with (a / 4096) (pages_in slots.old.items) }
+    ensures kept { KeepsFrames slots.old.items slots.new.items }
 {
     let frame = frame_for(slots, a / 4096);
     put_part(frames, frame as usize * 4096 + (a % 4096) as usize, bytes);
@@ -80,6 +82,7 @@ pub fn put(slots: &mut Vec<Slot>, frames: &mut [u8], capacity: u32, a: u64, byte
     ensures reserved { vec_capacity slots.new ≡ capacity }
     ensures bytes { byte_under (frame_in slots.new.items) frames.new ≡ with_list (byte_under (frame_in slots.old.items) frames.old) a bytes.now }
     ensures pages { pages_in slots.new.items ≡ touched_by (length bytes.now) a (pages_in slots.old.items) }
+    ensures kept { KeepsFrames slots.old.items slots.new.items }
 {
     let mut at = 0;
     while at < bytes.len() {

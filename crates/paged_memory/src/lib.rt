@@ -3,6 +3,7 @@
 
 mod ends;
 mod frames;
+mod known;
 mod memory;
 mod slots;
 mod stops;

@@ -7,6 +7,7 @@ ghost use Rattle.paged_memory.specs.Answers.{is_width, load_answer, read_answer,
 
 use crate::ends::{any_end, code_end, data_end};
 use crate::frames::{copy_out, put};
+use crate::known::{keep_page, known_place, no_pages, number_in, put_number};
 use crate::slots::{Slot, missing};
 use crate::stops::MemStop;
 use mx_base::OutOfMemory;
@@ -20,12 +21,14 @@ pub struct Memory {
     slots: Vec<Slot>,
     frames: Vec<u8>,
     capacity: u32,
+    known: Vec<Slot>,
 }
 
 impl Model for Memory {
     ghost use Rattle.std.specs.Prelude.{◌≡◌, vec_capacity};
     ghost use Rattle.paged_memory.specs.Paged.{Paged, paged_code};
     ghost use Rattle.paged_memory.specs.Frames.{IsSound, paged_of};
+    ghost use Rattle.paged_memory.specs.Known.{AreKnown};
 
     ghost Value = { Paged };
 
@@ -33,21 +36,22 @@ impl Model for Memory {
 
     ghost view = { λ m. paged_of m.slots.items m.frames.items m.capacity };
 
-    ghost invariant = { λ m. IsSound m.slots.items m.frames.items m.capacity × (vec_capacity m.slots ≡ m.capacity) };
+    ghost invariant = { λ m. IsSound m.slots.items m.frames.items m.capacity × (vec_capacity m.slots ≡ m.capacity) × AreKnown m.slots.items m.known.items };
 }
 
 impl Memory {
     /// A memory of zeros, in which no page is touched, with this many frames. It takes all its memory at once.
     pub fn make(alloc: Global, frames: u32) -> Result<Memory, OutOfMemory>
-        requires { frames ≤ 524288 }
         ensures { IfOk result (λ m. m ≡ record { pages = []; capacity = frames }) }
     {
         let slots = Vec::with_capacity(alloc, frames as usize)?;
         let bytes = vec![in alloc; 0u8; frames as usize * 4096]?;
+        let known = no_pages(alloc)?;
         Ok(Memory {
             slots,
             frames: bytes,
             capacity: frames,
+            known,
         })
     }
 
@@ -89,7 +93,20 @@ impl Memory {
     }
 
     /// The number of `n` bytes at `a`, the lowest byte first.
+    #[inline(always)]
     pub fn load(&self, a: u64, n: u8) -> Result<u64, MemStop>
+        requires { IsTrue (is_width n) }
+        ensures { result ≡ load_answer n (bytes_of self.now) a }
+    {
+        match known_place(&self.known, a, n) {
+            Some(at) => Ok(number_in(&self.frames, at, n)),
+            None => self.load_far(a, n),
+        }
+    }
+
+    /// The same, wherever the bytes lie.
+    #[inline(never)]
+    fn load_far(&self, a: u64, n: u8) -> Result<u64, MemStop>
         requires { IsTrue (is_width n) }
         ensures { result ≡ load_answer n (bytes_of self.now) a }
     {
@@ -133,7 +150,24 @@ impl Memory {
     }
 
     /// Writes the low `n` bytes of `v` from `a` on, the lowest first.
+    #[inline(always)]
     pub fn store(&mut self, a: u64, n: u8, v: u64) -> Result<(), MemStop>
+        requires { IsTrue (is_width n) }
+        ensures answer { Writes n a (store_answer n (bytes_of self.old) a v) self.old self.new result }
+        ensures refused { OnErr result (self.new ≡ self.old) }
+    {
+        match known_place(&self.known, a, n) {
+            Some(at) => {
+                put_number(&mut self.frames, at, n, v);
+                Ok(())
+            }
+            None => self.store_far(a, n, v),
+        }
+    }
+
+    /// The same, wherever the bytes lie.
+    #[inline(never)]
+    fn store_far(&mut self, a: u64, n: u8, v: u64) -> Result<(), MemStop>
         requires { IsTrue (is_width n) }
         ensures answer { Writes n a (store_answer n (bytes_of self.old) a v) self.old self.new result }
         ensures refused { OnErr result (self.new ≡ self.old) }
@@ -153,7 +187,13 @@ impl Memory {
         if bytes.len() as u64 > end - a {
             return Err(MemStop::Unmapped(end));
         }
-        self.put_in(a, bytes)
+        match self.put_in(a, bytes) {
+            Ok(()) => {
+                keep_page(&self.slots, &mut self.known, a);
+                Ok(())
+            }
+            Err(stop) => Err(stop),
+        }
     }
 
     /// Writes the bytes from `a` on, code regions included.

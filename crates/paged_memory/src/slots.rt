@@ -36,7 +36,7 @@ fn place_of(slots: &[Slot], page: u64) -> usize
 /// Gives a page the next frame.
 fn touch(slots: &mut Vec<Slot>, page: u64)
     requires room { length slots.old.items < vec_capacity slots.old }
-    requires few { length slots.old.items < 524288 }
+    requires few { length slots.old.items < 2 ^ 32 }
     requires sorted { AreByPage slots.old.items }
     ensures items { slots.new.items ≡ slot_placed record { page = page; frame = length slots.old.items } slots.old.items }
     ensures reserved { vec_capacity slots.new ≡ vec_capacity slots.old }
@@ -52,7 +52,7 @@ fn touch(slots: &mut Vec<Slot>, page: u64)
 /// The frame of a page, which gets the next one if it has none.
 pub fn frame_for(slots: &mut Vec<Slot>, page: u64) -> u32
     requires room { length (touched_with page (pages_in slots.old.items)) ≤ vec_capacity slots.old }
-    requires few { length (touched_with page (pages_in slots.old.items)) ≤ 524288 }
+    requires few { length (touched_with page (pages_in slots.old.items)) ≤ 2 ^ 32 }
     requires sorted { AreByPage slots.old.items }
     ensures frame { HasFrame slots.old.items slots.new.items page result }
     ensures reserved { vec_capacity slots.new ≡ vec_capacity slots.old }

@@ -14,6 +14,7 @@ loop-at-init c = record {
   reserved = c.requires.reserved;
   bytes = sym (with_list-none (byte_under (frame_in c.args.slots.now.items) c.args.frames.now) c.args.a);
   pages = sym (touched_by-none c.args.a (pages_in c.args.slots.now.items));
+  kept = λ p f has. has;
 }
 
 pub put_page-requires-clause-room : goal.put_page-requires-clause-room
@@ -39,4 +40,8 @@ loop-at-preserved c =
           ∙ sym (with_list_piece c.args.bytes.now c.loop-at.at c.piece-n.result (byte_under (frame_in c.args.slots.now.items) c.args.frames.now) c.args.a (omega (arith, most, within)));
       pages = c.put_page.ensures.pages ∙ ap (touched_with ((c.args.a + c.loop-at.at) / 4096)) c.loop-at.invariant.pages
           ∙ sym (touched_by-step c.loop-at.at c.piece-n.result c.args.a (pages_in c.args.slots.now.items) c.piece-n.ensures.some c.piece-n.ensures.inside);
+      kept = λ p f has. c.put_page.ensures.kept p f (c.loop-at.invariant.kept p f has);
     }
+
+pub returns-clause-kept : goal.returns-clause-kept
+returns-clause-kept c = c.loop-at.invariant.kept
