@@ -55,7 +55,7 @@ fn append_move(bytes: &mut Vec<u8>, name: &str, value: &str) -> Result<(), Fail>
 }
 
 /// Appends the bytes of digits.
-fn append_digits(bytes: &mut Vec<u8>, digits: &str) -> Result<(), Fail> {
+pub fn append_digits(bytes: &mut Vec<u8>, digits: &str) -> Result<(), Fail> {
     let mut high = None;
     for c in digits.chars() {
         let digit = u64::from(c.to_digit(16).ok_or("no digit")?);
@@ -139,7 +139,7 @@ fn put_segment(bytes: &mut Vec<u8>, at: u64, part: &[u8]) -> Result<(), Fail> {
 fn image_of(alloc: Global, code: &[u8], at: u64, more: &[u8]) -> Result<Image, Fail>
     ensures { IfOk result (λ image. IsImage image) }
 {
-    let mut bytes = Vec::from_slice(alloc, b"MXI1")?;
+    let mut bytes = Vec::from_slice(alloc, b"MXI2")?;
     put_number(&mut bytes, 2)?;
     put_number(&mut bytes, if more.is_empty() { 1 } else { 2 })?;
     put_segment(&mut bytes, CODE, code)?;

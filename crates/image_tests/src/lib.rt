@@ -7,6 +7,8 @@ mod assembler;
 #[cfg(test)]
 mod checks;
 #[cfg(test)]
+mod forms;
+#[cfg(test)]
 mod frames;
 #[cfg(test)]
 mod image_form;

@@ -5,7 +5,7 @@ use Rattle.mx_base.specs.declared.stops.Stop.{Stop}
 use Rattle.mx_base.specs.declared.stops.Stop.TheVariants as stop
 use Rattle.mx_base.specs.Outside.{FileFacts, Untold, Absent, Holds, MayLack, Adds, AddsFront, HasRisen}
 use Rattle.obj_file.specs.declared.image.Image.{Image}
-use Rattle.obj_file.specs.Image.{IsImage, image_spelling}
+use Rattle.obj_file.specs.Image.{IsImage, SpellsImage}
 use Rattle.obj_file.specs.Machine.{State}
 use Rattle.obj_file.specs.Runs as runs
 use Rattle.obj_file.specs.Loaded.{Tabled, Mode, image_run}
@@ -53,13 +53,13 @@ WhereTold (Holds bytes) P = P bytes
 abbrev pub IsLarge : List ℕ → Type 0
 IsLarge bytes = file_limit < length bytes
 
--- bytes that spell this image
+-- bytes that spell this image, in either version of the form
 abbrev pub IsSpelling : Image → List ℕ → Type 0
-IsSpelling v bytes = (length bytes ≤ file_limit) × (bytes ≡ image_spelling v)
+IsSpelling v bytes = (length bytes ≤ file_limit) × SpellsImage bytes v
 
 -- bytes that spell no image
 abbrev pub SpellsNone : List ℕ → Type 0
-SpellsNone bytes = (length bytes ≤ file_limit) × ((v : Image) → IsImage v → bytes ≡ image_spelling v → ⊥)
+SpellsNone bytes = (length bytes ≤ file_limit) × ((v : Image) → IsImage v → SpellsImage bytes v → ⊥)
 
 -- why no image is run, by what is told of the file
 abbrev pub IsRefused : FileFacts → End → Type 0

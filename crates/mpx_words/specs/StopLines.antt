@@ -1,5 +1,5 @@
 -- The stop of an image's run: the status, and the line on standard error.
-use Rattle.std.specs.Prelude.{ℕ, ◌==◌, Option, None, Some, List, ◌++◌, codes, find, slice_get}
+use Rattle.std.specs.Prelude.{ℕ, ◌==◌, if◌then◌else◌, Option, None, Some, List, [], ◌++◌, codes, find, slice_get}
 use Rattle.std.specs.Fmt.{decimal}
 use Rattle.mx_base.specs.declared.stops.Stop.{Stop}
 use Rattle.mx_base.specs.declared.stops.Stop.TheVariants.{Exit, Bounds, Unmapped, Divide, Undefined, StackOver, OutOfTurns, Strayed, NoTable, NoFrames, ReadFault, WriteFault}
@@ -21,9 +21,17 @@ stop_status_of (NoFrames in_use capacity) = 14
 stop_status_of ReadFault = 3
 stop_status_of WriteFault = 4
 
+-- kind 1 is a read, 2 a write
+abbrev pub kind_text : ℕ → List ℕ
+kind_text kind = if kind == 1 then codes "read" else codes "write"
+
+-- the access that is checked, where its kind is known: its size is in bytes
+abbrev pub access_text : ℕ → ℕ → List ℕ
+access_text kind size = if kind == 0 then [] else codes ", " ++ kind_text kind ++ codes " of " ++ decimal size
+
 -- a place in a file of this name
 abbrev pub spot_in : List ℕ → Spot4 → List ℕ
-spot_in name spot = codes " at " ++ name ++ codes ":" ++ decimal spot.line ++ codes ":" ++ decimal spot.col
+spot_in name spot = access_text spot.kind spot.size ++ codes " at " ++ name ++ codes ":" ++ decimal spot.line ++ codes ":" ++ decimal spot.col
 
 -- the address of an instruction of which no place is told
 abbrev pub code_text : ℕ → List ℕ

@@ -53,7 +53,7 @@ pub fn make_line(file: &str, end: &End) -> Line
 pub fn push_bounds(line: &mut Line, value: u64, lb: u64, ub: u64)
     requires { array_vec_len line.old ≡ 0 }
     ensures items { line.new.items ≡ line.old.items ++ (codes "bounds: 0x" ++ hex value ++ codes " outside [0x" ++ hex lb ++ codes ", 0x" ++ hex ub ++ codes "]") }
-    ensures len { array_vec_len line.new ≤ 250 }
+    ensures len { array_vec_len line.new ≤ 230 }
 {
     push(line, b"bounds: 0x");
     push_hex(line, value);

@@ -4,7 +4,7 @@ ghost use Rattle.std.specs.Fmt.{decimal};
 ghost use Rattle.arrayvec.specs.ArrayVec.{array_vec_len};
 ghost use Rattle.obj_file.specs.Image.{IsImage};
 ghost use Rattle.mpx_words.specs.Ends.{hex};
-ghost use Rattle.mpx_words.specs.StopLines.{place_text, spot_in, code_text, stop_line_of, stop_text_of, stop_status_of};
+ghost use Rattle.mpx_words.specs.StopLines.{place_text, access_text, spot_in, code_text, stop_line_of, stop_text_of, stop_status_of};
 
 use crate::line::{Line, push, push_bounds, push_decimal, push_hex};
 use mx_base::Stop;
@@ -101,12 +101,30 @@ fn name_of(image: &Image, spot: Spot4) -> Option<&str>
     }
 }
 
+/// The access that is checked, where its kind is known.
+fn push_access(line: &mut Line, kind: u8, size: u32)
+    requires { array_vec_len line.old ≤ 230 }
+    ensures items { line.new.items ≡ line.old.items ++ access_text kind size }
+    ensures len { array_vec_len line.new ≤ 285 }
+{
+    if kind == 0 {
+        return;
+    }
+    if kind == 1 {
+        push(line, b", read of ");
+    } else {
+        push(line, b", write of ");
+    }
+    push_decimal(line, u64::from(size));
+}
+
 fn push_spot(line: &mut Line, name: &str, spot: Spot4)
     requires short { length name.now ≤ 255 }
-    requires room { array_vec_len line.old ≤ 250 }
+    requires room { array_vec_len line.old ≤ 230 }
     ensures items { line.new.items ≡ line.old.items ++ spot_in name.now spot }
-    ensures len { array_vec_len line.new ≤ 600 }
+    ensures len { array_vec_len line.new ≤ 630 }
 {
+    push_access(line, spot.kind, spot.size);
     push(line, b" at ");
     push(line, name.as_bytes());
     push(line, b":");
@@ -126,9 +144,9 @@ fn push_code(line: &mut Line, rip: u64)
 #[tactic(auto, using(crate::proofs::Names::placed, crate::proofs::Names::nameless, crate::proofs::Names::placeless))]
 fn push_place(line: &mut Line, image: &Image, rip: u64)
     requires image { IsImage image.now }
-    requires room { array_vec_len line.old ≤ 250 }
+    requires room { array_vec_len line.old ≤ 230 }
     ensures items { line.new.items ≡ line.old.items ++ place_text image.now rip }
-    ensures len { array_vec_len line.new ≤ 600 }
+    ensures len { array_vec_len line.new ≤ 630 }
 {
     match find_place(image, rip) {
         Some(spot) => match name_of(image, spot) {

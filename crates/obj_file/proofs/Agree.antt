@@ -14,10 +14,10 @@ use Rattle.obj_file.specs.Fields.{and_then, ◌>>=◌, number_at, bytes_at, chec
 abbrev pub IsBytes : List ℕ → Type 0
 IsBytes bytes = (i : ℕ) → get_or bytes i 0 < 256
 
-IsBytes-drop : (n : ℕ) (bytes : List ℕ) → IsBytes bytes → IsBytes (drop n bytes)
+pub IsBytes-drop : (n : ℕ) (bytes : List ℕ) → IsBytes bytes → IsBytes (drop n bytes)
 IsBytes-drop n bytes h i = rw get_or-drop (h (n + i))
 
-IsBytes-take : (n : ℕ) (bytes : List ℕ) → IsBytes bytes → IsBytes (take n bytes)
+pub IsBytes-take : (n : ℕ) (bytes : List ℕ) → IsBytes bytes → IsBytes (take n bytes)
 IsBytes-take n bytes h i =
     elim (cases_lt i n) [
       | inl lt ↦ rw (get_or-take n bytes i 0 lt) (h i)
@@ -273,18 +273,25 @@ nil_of : (rest : List ℕ) → nat_lt 0 (length rest) ≡ false → rest ≡ []
 nil_of [] h = refl
 nil_of (b ∷ rest) h = absurd (let g = ltb-false _ _ h in omega arith)
 
-pub whole_found : {A : Type 0} (field : List ℕ → Result (A × List ℕ) ℕ) (text : A → List ℕ) (Fits : A → Type 0) → Agrees field text Fits → (bytes : List ℕ) (x : A) → IsBytes bytes → whole field bytes ≡ Ok x → Fits x × (bytes ≡ text x)
+abbrev read_to : {A : Type 0} → A → List ℕ → Result (A × List ℕ) ℕ
+read_to x rest = Ok (x, rest)
+
+none_left : {A : Type 0} (x y : A) (rest : List ℕ) → x ≡ y → rest ≡ [] → read_to x rest ≡ read_to y []
+none_left x y rest e f = rw (e, f) refl
+
+pub whole_found : {A : Type 0} (field : List ℕ → Result (A × List ℕ) ℕ) (bytes : List ℕ) (x : A) → whole field bytes ≡ Ok x → field bytes ≡ Ok (x, [])
 unfolding whole
-whole_found {A} field text Fits agrees bytes x fits e =
+whole_found {A} field bytes x e =
     let a = and_then_ok (field bytes) ended x (offset_ok bytes (field bytes >>= ended) x e) in
     let g = guard_ok (nat_lt 0 (length a.0.1)) (length a.0.1) a.0.0 x a.2 in
-    let t = agrees.takes bytes a.0 fits a.1 in
-    let none : a.0.1 ≡ [] = nil_of a.0.1 g.0 in
-    let all : bytes ≡ text a.0.0 = t.0.parts ∙ ap (λ (r : List ℕ). text a.0.0 ++ r) none ∙ append-nil (text a.0.0) in
-    subst (λ (y : A). Fits y × (bytes ≡ text y)) g.1 (t.1, all)
+    a.1 ∙ none_left a.0.0 x a.0.1 g.1 (nil_of a.0.1 g.0)
 
-pub whole_again : {A : Type 0} (field : List ℕ → Result (A × List ℕ) ℕ) (text : A → List ℕ) (Fits : A → Type 0) → Agrees field text Fits → (x : A) → Fits x → whole field (text x) ≡ Ok x
+-- what a reader took is all of the bytes, where none are left
+pub takes_all : (bytes text : List ℕ) → Takes bytes text [] → bytes ≡ text
+takes_all bytes text t = t.parts ∙ append-nil text
+
+pub whole_again : {A : Type 0} (field : List ℕ → Result (A × List ℕ) ℕ) (text : List ℕ) (x : A) → field (text ++ []) ≡ Ok (x, []) → whole field text ≡ Ok x
 unfolding whole
-whole_again {A} field text Fits agrees x fits =
-    let read : field (text x) ≡ Ok (x, []) = ap field (sym (append-nil (text x))) ∙ agrees.again x [] fits in
-    ap (offset (text x)) (and_then-ok (field (text x)) ended (x, []) read)
+whole_again {A} field text x e =
+    let read : field text ≡ Ok (x, []) = ap field (sym (append-nil text)) ∙ e in
+    ap (offset text) (and_then-ok (field text) ended (x, []) read)

@@ -1,8 +1,10 @@
 pub mod Agree
 pub mod Loop
+pub mod VersionLaws
 pub mod ImageLaws
 pub mod AsciiNames
 pub mod ObjectLaws
+pub mod LoadedLaws
 pub mod RunLaws
 pub mod FinalLaws
 pub mod StoredPlaces

@@ -1,10 +1,10 @@
 -- An image in the machine: its memory with the bounds directory and the bound tables (Intel SDM, volume 1, bound directory and bound
 -- tables), the state before the first event, and its run.
-use Rattle.std.specs.Prelude.{ℕ, ◌+◌, nat_eq, Bool, if◌then◌else◌, Option, None, Some, Result, Ok, Err, List, [], ◌∷◌}
+use Rattle.std.specs.Prelude.{◌≡◌, ℕ, ◌+◌, ◌<◌, ◌≤◌, nat_eq, Bool, if◌then◌else◌, Option, None, Some, Result, Ok, Err, List, [], ◌∷◌, length}
 use Rattle.std.specs.Option.{option_map}
 use Rattle.mx_base.specs.declared.limits.Bounds.{Bounds}
 use Rattle.mx_base.specs.Regions.{instrumented_code, control_stack, region_end, is_readable, is_writable}
-use Rattle.mx_base.specs.Memory.{Bytes, no_bytes, number_at, with_number, with_list, first_refused}
+use Rattle.mx_base.specs.Memory.{Bytes, no_bytes, number_at, with_number, list_at, with_list, first_refused}
 use Rattle.mx_base.specs.Services.{guest_with}
 use Rattle.mx_base.specs.Walk.{Walked, Beyond, Invalid as NoTable, Stands, walk, entry_in, with_entry, entry_size, bounds_in, entry_for, with_next_table, invalid_status}
 use Rattle.mx_base.specs.World.{Access}
@@ -94,6 +94,14 @@ ground_of reads outers mode = record {
 abbrev pub with_segments : Bytes → List Segment → Bytes
 with_segments m [] = m
 with_segments m (s ∷ rest) = with_segments (with_list m s.at s.bytes) rest
+
+-- memory has a segment's bytes at its addresses
+abbrev pub Holds : Bytes → Segment → Type 0
+Holds m s = list_at (length s.bytes) m s.at ≡ s.bytes
+
+-- an address that a segment doesn't have
+abbrev pub IsOutside : ℕ → Segment → Type 0
+IsOutside a s = s.at ≤ a → a < s.at + length s.bytes → ⊥
 
 -- the processor before the first event
 abbrev pub processor_at_start : Bool → Processor

@@ -1,15 +1,18 @@
 -- Objects: which there are, and the one spelling of each.
-use Rattle.std.specs.Prelude.{ℕ, ◌+◌, ◌≤◌, ◌<◌, Bool, ◌&&◌, ◌||◌, not, nat_eq, if◌then◌else◌, IsTrue, FitsSigned, List, [], ◌∷◌, ◌++◌, length}
-use Rattle.std.specs.List.{list_any}
+use Rattle.std.specs.Prelude.{◌≡◌, ◌⊎◌, ℕ, ◌+◌, ◌≤◌, ◌<◌, Bool, ◌&&◌, ◌||◌, not, nat_eq, if◌then◌else◌, IsTrue, FitsSigned, List, [], ◌∷◌, ◌++◌, length}
+use Rattle.std.specs.List.{list_any, AllByRecursion}
 use Rattle.std.specs.Int.{w8, w32, w64, cast_unsigned}
 use Rattle.std.specs.Str.{IsUtf8, bytes_eq}
 use Rattle.obj_file.specs.declared.object.Object.{Object}
 use Rattle.obj_file.specs.declared.object.Symbol.{Symbol}
 use Rattle.obj_file.specs.declared.object.Fix.{Fix}
 use Rattle.obj_file.specs.declared.object.Spot3.{Spot3}
+use Rattle.obj_file.specs.declared.parts.Version.{Version}
+use Rattle.obj_file.specs.declared.parts.Version.TheVariants.{First, Second}
 use Rattle.obj_file.specs.declared.parts.Parts.{Parts}
 use Rattle.obj_file.specs.declared.parts.End.{End}
 use Rattle.obj_file.specs.InTurn.{InTurn, le, sized, counted}
+use Rattle.obj_file.specs.Versions.{IsAccess, access_text}
 use Rattle.obj_file.specs.Names.{is_c_name, is_function_sig, is_data_sig}
 use Rattle.obj_file.specs.Image.{CountsFromOne}
 
@@ -91,12 +94,13 @@ most_places legacy = if legacy then 0 else 1_048_576
 abbrev pub after_spot : ℕ → Spot3 → ℕ
 after_spot from p = p.offset + 1
 
--- a place in the code, from an offset on
+-- a place in the code, from an offset on, with the access that is checked there
 pub record IsSpot (code : ℕ) (from : ℕ) (p : Spot3) : Type 0 where
   pub after : from ≤ p.offset
   pub within : p.offset < code
   pub line : CountsFromOne p.line
   pub col : CountsFromOne p.col
+  pub access : IsAccess p.kind p.size
 
 -- ---- objects
 
@@ -114,9 +118,10 @@ pub record IsObject (o : Object) : Type 0 where
 
 -- ---- spelling
 
--- the bytes of `MXO1`
-abbrev pub object_magic : ℕ
-object_magic = 0x314F_584D
+-- the bytes of `MXO1` and of `MXO2`
+abbrev pub object_magic : Version → ℕ
+object_magic First = 0x314F_584D
+object_magic Second = 0x324F_584D
 
 unfoldable pub symbol_text : Symbol → List ℕ
 symbol_text s = le w8 s.part ++ le w32 s.offset ++ sized w8 s.name ++ sized w8 s.sig
@@ -124,20 +129,28 @@ symbol_text s = le w8 s.part ++ le w32 s.offset ++ sized w8 s.name ++ sized w8 s
 unfoldable pub fix_text : Fix → List ℕ
 fix_text f = le w8 f.part ++ le w32 f.offset ++ le w8 f.form ++ le w32 f.symbol ++ le w64 (cast_unsigned w64 f.addend)
 
-unfoldable pub spot_text : Spot3 → List ℕ
-spot_text p = le w32 p.offset ++ le w32 p.line ++ le w32 p.col
+unfoldable pub spot_text : Version → Spot3 → List ℕ
+spot_text version p = le w32 p.offset ++ le w32 p.line ++ le w32 p.col ++ access_text version p.kind p.size
 
 -- 0 is legacy, 1 is instrumented
 abbrev pub kind_of : Bool → ℕ
 kind_of legacy = if legacy then 0 else 1
 
-unfoldable pub object_spelling : Object → List ℕ
-object_spelling o =
-    le w32 object_magic
+unfoldable pub object_text : Version → Object → List ℕ
+object_text version o =
+    le w32 (object_magic version)
     ++ le w8 (kind_of o.legacy)
     ++ sized w8 o.file
     ++ sized w32 o.code
     ++ sized w32 o.stored
     ++ counted symbol_text o.symbols
     ++ counted fix_text o.fixes
-    ++ counted spot_text o.places
+    ++ counted (spot_text version) o.places
+
+-- the one spelling of an object
+abbrev pub object_spelling : Object → List ℕ
+object_spelling o = object_text Second o
+
+-- bytes that are read as an object: its spelling, or that of the first version where all its places are of unknown kind
+abbrev pub SpellsObject : List ℕ → Object → Type 0
+SpellsObject bytes o = (bytes ≡ object_spelling o) ⊎ ((bytes ≡ object_text First o) × AllByRecursion (λ p. p.kind ≡ 0) o.places)

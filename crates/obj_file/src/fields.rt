@@ -4,9 +4,11 @@ ghost use Rattle.std.specs.Prelude.{◌≡◌, ◌<◌, ◌≤◌, Bool, true, f
 ghost use Rattle.std.specs.Int.{w8, w32, w64};
 ghost use Rattle.std.specs.Str.{is_utf8};
 ghost use Rattle.obj_file.specs.Fields.{Gives, number_at, number_in, bytes_at, sized_at};
+ghost use Rattle.obj_file.specs.Versions.{version_at, access_at};
 
 use crate::fault::Unread;
 use crate::lists::Text;
+use crate::parts::{Access, Version};
 use std::alloc::Global;
 
 /// A number of 8 bits.
@@ -119,4 +121,35 @@ pub fn text_of(alloc: Global, low: u8, end: u16, bytes: &[u8]) -> Result<(Text, 
         return Err(Unread::Left(start.len()));
     };
     Ok((Text::from_string(String::from_str(alloc, text)?), rest))
+}
+
+/// The version of a form, by its magic number: `first` or `second`.
+#[tactic(auto, unfolding(crate::specs::Versions::version_at, crate::specs::Fields::and_then))]
+pub fn version_of(first: u32, second: u32, bytes: &[u8]) -> Result<(Version, &[u8]), Unread>
+    ensures { Gives (λ x. (x.0, x.1.now)) result (version_at first second bytes.now) }
+{
+    let (magic, rest) = u32_at(bytes)?;
+    if magic == first {
+        Ok((Version::First, rest))
+    } else if magic == second {
+        Ok((Version::Second, rest))
+    } else {
+        Err(Unread::Left(bytes.len()))
+    }
+}
+
+/// The access of a place: its kind and its size, of which the first version tells nothing.
+#[tactic(auto, unfolding(crate::specs::Versions::access_at, crate::specs::Fields::and_then))]
+pub fn access_of(version: Version, bytes: &[u8]) -> Result<(Access, &[u8]), Unread>
+    ensures { Gives (λ x. (x.0, x.1.now)) result (access_at version bytes.now) }
+{
+    match version {
+        Version::First => Ok((Access { kind: 0, size: 0 }, bytes)),
+        Version::Second => {
+            let (kind, rest) = u8_in(0, 3, bytes)?;
+            let (least, most) = if kind == 0 { (0, 0) } else { (1, 16_777_216) };
+            let (size, rest) = u32_in(least, most + 1, rest)?;
+            Ok((Access { kind, size }, rest))
+        }
+    }
 }

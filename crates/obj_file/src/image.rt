@@ -23,13 +23,18 @@ pub struct Segment {
     pub bytes: Bytes,
 }
 
-/// The place in the sources of the instruction at an address: a file by its number, line and column from 1.
+/// The place in the sources of the instruction at an address: a file by its number, line and column from 1, and the access that it
+/// checks.
 #[derive(Clone, Copy, Debug, PartialEq, Eq, Drop)]
 pub struct Spot4 {
     pub at: u64,
     pub file: u32,
     pub line: u32,
     pub col: u32,
+    /// 0 unknown, 1 read, 2 write.
+    pub kind: u8,
+    /// How many bytes are accessed, 1 to 16,777,216; 0 where the kind is unknown.
+    pub size: u32,
 }
 
 /// Segments in order.

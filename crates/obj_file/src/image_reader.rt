@@ -3,17 +3,22 @@
 ghost use Rattle.std.specs.Prelude.{◌≡◌, ℕ, ◌+◌, ◌<◌, ◌≤◌, length, IfOk, Ok};
 ghost use Rattle.obj_file.specs.declared.image.Image.{Image};
 ghost use Rattle.obj_file.specs.Fields.{Gives, Tells, many_at, counted_at};
-ghost use Rattle.obj_file.specs.Image.{IsImage, image_spelling, room_at, segment_end, after_place};
+ghost use Rattle.obj_file.specs.Image.{IsImage, SpellsImage, room_at, segment_end, after_place};
 ghost use Rattle.obj_file.specs.ImageReading.{segment_start_at, segment_at, file_at, place_at, image_at};
 ghost use Rattle.obj_file.specs.ImageReading as spec;
+ghost use Rattle.obj_file.specs.StoreLaw.{HaveBytes};
 
 use crate::fault::{FormFault, Unread};
-use crate::fields::{bytes_of, text_of, u32_in, u64_at, u64_in};
+use crate::fields::{access_of, bytes_of, text_of, u32_in, u64_at, u64_in, version_of};
 use crate::image::{Files, Image, Segment, Segments, Spot4, Spots4};
 use crate::lists::{Bytes, Text};
+use crate::parts::Version;
 use std::alloc::Global;
 
-const MAGIC: u32 = 0x3149_584D;
+/// `MXI1` and `MXI2`.
+const FIRST_MAGIC: u32 = 0x3149_584D;
+
+const SECOND_MAGIC: u32 = 0x3249_584D;
 
 const CODE: u64 = 0x0100_0000;
 
@@ -69,20 +74,23 @@ fn segment_of(alloc: Global, from: u64, bytes: &[u8]) -> Result<(Segment, &[u8])
 }
 
 #[tactic(auto, unfolding(crate::specs::ImageReading::place_at, crate::specs::Fields::and_then))]
-fn place_of(files: u64, from: u64, bytes: &[u8]) -> Result<(Spot4, &[u8]), Unread>
-    ensures gives { Gives (λ x. (x.0, x.1.now)) result (place_at files from bytes.now) }
+fn place_of(version: Version, files: u64, from: u64, bytes: &[u8]) -> Result<(Spot4, &[u8]), Unread>
+    ensures gives { Gives (λ x. (x.0, x.1.now)) result (place_at version files from bytes.now) }
     ensures within { IfOk result (λ x. x.0.at < 0x1100_0000) }
 {
     let (at, rest) = u64_in(from.max(CODE), CODE_END, bytes)?;
     let (file, rest) = u32_in(0, files, rest)?;
     let (line, rest) = u32_in(1, 1 << 32, rest)?;
     let (col, rest) = u32_in(1, 1 << 32, rest)?;
+    let (access, rest) = access_of(version, rest)?;
     Ok((
         Spot4 {
             at,
             file,
             line,
             col,
+            kind: access.kind,
+            size: access.size,
         },
         rest,
     ))
@@ -125,17 +133,18 @@ fn files_of(alloc: Global, count: u32, bytes: &[u8]) -> Result<(Vec<Text>, &[u8]
 
 fn places_of(
     alloc: Global,
+    version: Version,
     files: u64,
     count: u32,
     bytes: &[u8],
 ) -> Result<(Vec<Spot4>, &[u8]), Unread>
-    ensures { Gives (λ x. (x.0.items, x.1.now)) result (many_at (place_at files) after_place count 0 bytes.now) }
+    ensures { Gives (λ x. (x.0.items, x.1.now)) result (many_at (place_at version files) after_place count 0 bytes.now) }
 {
     let mut places = Vec::new(alloc);
     let mut from = 0;
     let mut rest = bytes;
     for _ in 0..count {
-        let (place, after) = place_of(files, from, rest)?;
+        let (place, after) = place_of(version, files, from, rest)?;
         from = place.at + 1;
         places.push(place)?;
         rest = after;
@@ -162,11 +171,16 @@ fn all_files(alloc: Global, bytes: &[u8]) -> Result<(Files, &[u8]), Unread>
 }
 
 #[tactic(auto, unfolding(crate::specs::Fields::counted_at, crate::specs::Fields::and_then))]
-fn all_places(alloc: Global, files: u64, bytes: &[u8]) -> Result<(Spots4, &[u8]), Unread>
-    ensures { Gives (λ x. (x.0, x.1.now)) result (counted_at (place_at files) after_place 1_048_576 0 bytes.now) }
+fn all_places(
+    alloc: Global,
+    version: Version,
+    files: u64,
+    bytes: &[u8],
+) -> Result<(Spots4, &[u8]), Unread>
+    ensures { Gives (λ x. (x.0, x.1.now)) result (counted_at (place_at version files) after_place 1_048_576 0 bytes.now) }
 {
     let (count, rest) = u32_in(0, 1_048_577, bytes)?;
-    let (places, rest) = places_of(alloc, files, count, rest)?;
+    let (places, rest) = places_of(alloc, version, files, count, rest)?;
     Ok((Spots4::from_vec(places), rest))
 }
 
@@ -174,11 +188,11 @@ fn all_places(alloc: Global, files: u64, bytes: &[u8]) -> Result<(Spots4, &[u8])
 fn image_of(alloc: Global, bytes: &[u8]) -> Result<(Image, &[u8]), Unread>
     ensures { Gives (λ x. (x.0, x.1.now)) result (image_at bytes.now) }
 {
-    let (_, rest) = u32_in(MAGIC, MAGIC as u64 + 1, bytes)?;
+    let (version, rest) = version_of(FIRST_MAGIC, SECOND_MAGIC, bytes)?;
     let (outers, rest) = u32_in(0, 65_537, rest)?;
     let (segments, rest) = all_segments(alloc, rest)?;
     let (files, rest) = all_files(alloc, rest)?;
-    let (places, rest) = all_places(alloc, files.as_slice().len() as u64, rest)?;
+    let (places, rest) = all_places(alloc, version, files.as_slice().len() as u64, rest)?;
     Ok((
         Image {
             outers,
@@ -206,13 +220,15 @@ fn whole_image(alloc: Global, bytes: &[u8]) -> Result<Image, FormFault>
     }
 }
 
-/// The image that the bytes spell, all of them. `BadForm` gives the offset of the first field that is cut or breaks its rule, a length and
+/// The image that the bytes spell, all of them, in either version of the form. A place of the first version has kind 0. `BadForm` gives the offset of the first field that is cut or breaks its rule, a length and
 /// its bytes being two fields, or else that of the first byte after the last field.
 pub fn read_image(alloc: Global, bytes: &[u8]) -> Result<Image, FormFault>
-    // What is read is an image, and the bytes are its spelling.
-    ensures found { IfOk result (λ v. IsImage v × (bytes.now ≡ image_spelling v)) }
-    // Bytes that are the spelling of an image are read as that image, unless memory is wanting.
-    ensures only { (v : Image) → IsImage v → bytes.now ≡ image_spelling v → Tells result (Ok v) }
+    // What is read is an image, and the bytes spell it: they are its spelling, or that of the first version, and no place has a known kind.
+    ensures found { IfOk result (λ v. IsImage v × SpellsImage bytes.now v) }
+    // Bytes that spell an image are read as that image, unless memory is wanting.
+    ensures only { (v : Image) → IsImage v → SpellsImage bytes.now v → Tells result (Ok v) }
+    // What segments hold are bytes.
+    ensures bytes { IfOk result (λ v. HaveBytes v.segments) }
     // Which offset it is.
     ensures exact { Tells result (spec.image_of bytes.now) }
 {

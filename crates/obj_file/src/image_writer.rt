@@ -4,14 +4,16 @@ ghost use Rattle.std.specs.Prelude.{◌≡◌, ◌++◌, ◌^◌, ◌<◌, lengt
 ghost use Rattle.std.specs.List.{All};
 ghost use Rattle.obj_file.specs.InTurn.{counted};
 ghost use Rattle.obj_file.specs.Image.{IsImage, image_spelling, segment_text, file_text, place_text};
+ghost use Rattle.obj_file.specs.declared.parts.Version.TheVariants.{Second};
 
 use crate::image::{Image, Segment, Spot4};
 use crate::lists::Text;
-use crate::put::{put_long, put_short, put_u32, put_u64};
+use crate::put::{put_access, put_long, put_short, put_u32, put_u64};
 use mx_base::OutOfMemory;
 use std::alloc::{AllocError, Global};
 
-const MAGIC: u32 = 0x3149_584D;
+/// `MXI2`.
+const MAGIC: u32 = 0x3249_584D;
 
 #[tactic(auto, unfolding(crate::specs::Image::segment_text))]
 fn put_segment(out: &mut Vec<u8>, segment: &Segment) -> Result<(), AllocError>
@@ -24,12 +26,13 @@ fn put_segment(out: &mut Vec<u8>, segment: &Segment) -> Result<(), AllocError>
 
 #[tactic(auto, unfolding(crate::specs::Image::place_text))]
 fn put_place(out: &mut Vec<u8>, place: &Spot4) -> Result<(), AllocError>
-    ensures { OnOk result (out.new.items ≡ out.old.items ++ place_text place.now) }
+    ensures { OnOk result (out.new.items ≡ out.old.items ++ place_text Second place.now) }
 {
     put_u64(out, place.at)?;
     put_u32(out, place.file)?;
     put_u32(out, place.line)?;
-    put_u32(out, place.col)
+    put_u32(out, place.col)?;
+    put_access(out, place.kind, place.size)
 }
 
 #[tactic(auto, unfolding(crate::specs::InTurn::counted))]
@@ -61,7 +64,7 @@ fn put_files(out: &mut Vec<u8>, files: &[Text]) -> Result<(), AllocError>
 #[tactic(auto, unfolding(crate::specs::InTurn::counted))]
 fn put_places(out: &mut Vec<u8>, places: &[Spot4]) -> Result<(), AllocError>
     requires { length places.now < 2 ^ 32 }
-    ensures { OnOk result (out.new.items ≡ out.old.items ++ counted place_text places.now) }
+    ensures { OnOk result (out.new.items ≡ out.old.items ++ counted (place_text Second) places.now) }
 {
     put_u32(out, places.len() as u32)?;
     for place in places {
@@ -71,7 +74,7 @@ fn put_places(out: &mut Vec<u8>, places: &[Spot4]) -> Result<(), AllocError>
 }
 
 /// The one spelling of an image.
-#[tactic(auto, unfolding(crate::specs::Image::image_spelling))]
+#[tactic(auto, unfolding(crate::specs::Image::image_text))]
 pub fn write_image(alloc: Global, i: &Image) -> Result<Vec<u8>, OutOfMemory>
     requires { IsImage i.now }
     ensures { IfOk result (λ bytes. bytes.items ≡ image_spelling i.now) }

@@ -1,29 +1,39 @@
 //! Laws of the definitions of objects and images.
 
-ghost use Rattle.std.specs.Prelude.{◌≡◌, ◌↔◌, ℕ, ◌<◌, List, Ok, slice_index};
+ghost use Rattle.std.specs.Prelude.{◌≡◌, ◌↔◌, ℕ, ◌<◌, Bool, List, Ok, slice_index};
+ghost use Rattle.std.specs.List.{AllByRecursion};
 ghost use Rattle.obj_file.specs.declared.image.Image.{Image};
-ghost use Rattle.obj_file.specs.Image.{IsImage, image_spelling};
+ghost use Rattle.obj_file.specs.Image.{IsImage, SpellsImage};
 ghost use Rattle.obj_file.specs.ImageReading.{image_of};
+ghost use Rattle.obj_file.specs.Loaded.{state_at_start, Holds, IsOutside};
 ghost use Rattle.obj_file.specs.declared.object.Object.{Object};
-ghost use Rattle.obj_file.specs.Object.{IsObject, object_spelling};
+ghost use Rattle.obj_file.specs.Object.{IsObject, SpellsObject};
 ghost use Rattle.obj_file.specs.ObjectReading.{object_of};
 
-/// Reading gives an image exactly where the bytes are its spelling, for all bytes.
+/// Reading gives an image exactly where the bytes spell it, for all bytes: they are its spelling, or that of the first version, and every
+/// place is of unknown kind.
 pub fn images_are_spelled()
-    ensures { (bytes : List ℕ) (v : Image) → ((i : ℕ) → slice_index bytes i < 256) → (image_of bytes ≡ Ok v) ↔ (IsImage v × (bytes ≡ image_spelling v)) }
+    ensures { (bytes : List ℕ) (v : Image) → ((i : ℕ) → slice_index bytes i < 256) → (image_of bytes ≡ Ok v) ↔ (IsImage v × SpellsImage bytes v) }
 {}
 
-/// Each image has a spelling of its own.
+/// The same bytes spell one image alone.
 pub fn images_have_one_spelling()
-    ensures { (v w : Image) → IsImage v → IsImage w → image_spelling v ≡ image_spelling w → v ≡ w }
+    ensures { (bytes : List ℕ) (v w : Image) → IsImage v → IsImage w → SpellsImage bytes v → SpellsImage bytes w → v ≡ w }
 {}
 
-/// Reading gives an object exactly where the bytes are its spelling, for all bytes.
+/// Reading gives an object exactly where the bytes spell it, for all bytes: they are its spelling, or that of the first version, and every
+/// place is of unknown kind.
 pub fn objects_are_spelled()
-    ensures { (bytes : List ℕ) (o : Object) → ((i : ℕ) → slice_index bytes i < 256) → (object_of bytes ≡ Ok o) ↔ (IsObject o × (bytes ≡ object_spelling o)) }
+    ensures { (bytes : List ℕ) (o : Object) → ((i : ℕ) → slice_index bytes i < 256) → (object_of bytes ≡ Ok o) ↔ (IsObject o × SpellsObject bytes o) }
 {}
 
-/// Each object has a spelling of its own.
+/// The same bytes spell one object alone.
 pub fn objects_have_one_spelling()
-    ensures { (o p : Object) → IsObject o → IsObject p → object_spelling o ≡ object_spelling p → o ≡ p }
+    ensures { (bytes : List ℕ) (o p : Object) → IsObject o → IsObject p → SpellsObject bytes o → SpellsObject bytes p → o ≡ p }
+{}
+
+/// Before the first event the bytes of each segment stand at its addresses, and each other byte of memory is 0.
+pub fn segments_stand_in_memory()
+    ensures segments { (v : Image) (preserve : Bool) (input : List ℕ) → IsImage v → AllByRecursion (Holds (state_at_start v.segments preserve input).memory.bytes) v.segments }
+    ensures zeros { (v : Image) (preserve : Bool) (input : List ℕ) (a : ℕ) → AllByRecursion (IsOutside a) v.segments → (state_at_start v.segments preserve input).memory.bytes a ≡ 0 }
 {}

@@ -23,6 +23,7 @@ pub use image_reader::read_image;
 pub use image_writer::write_image;
 pub use laws::{
     images_are_spelled, images_have_one_spelling, objects_are_spelled, objects_have_one_spelling,
+    segments_stand_in_memory,
 };
 pub use lists::{Bytes, Text};
 pub use object::{Fix, Fixes, Object, Spot3, Spots3, Symbol, Symbols};

@@ -43,12 +43,16 @@ pub struct Fix {
     pub addend: i64,
 }
 
-/// The place in the source of the instruction at an offset of the code: line and column from 1.
+/// The place in the source of the instruction at an offset of the code: line and column from 1, and the access that it checks.
 #[derive(Clone, Copy, Debug, PartialEq, Eq, Drop)]
 pub struct Spot3 {
     pub offset: u32,
     pub line: u32,
     pub col: u32,
+    /// 0 unknown, 1 read, 2 write.
+    pub kind: u8,
+    /// How many bytes are accessed, 1 to 16,777,216; 0 where the kind is unknown.
+    pub size: u32,
 }
 
 /// Symbols in order.

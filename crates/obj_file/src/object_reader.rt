@@ -1,24 +1,30 @@
 //! The object that bytes spell.
 
 ghost use Rattle.std.specs.Prelude.{◌≡◌, ℕ, ◌+◌, ◌<◌, ◌≤◌, List, [], Bool, true, length, IfOk, Ok};
+ghost use Rattle.std.specs.List.{All};
 ghost use Rattle.std.specs.Int.{w8, w32};
 ghost use Rattle.std.specs.Str.{is_utf8};
 ghost use Rattle.obj_file.specs.declared.object.Object.{Object};
 ghost use Rattle.obj_file.specs.Fields.{Gives, Tells, many_at, counted_at, sized_at};
 ghost use Rattle.obj_file.specs.Object as rule;
-ghost use Rattle.obj_file.specs.Object.{IsObject, object_spelling, after_symbol, fix_end, no_fix, after_spot};
+ghost use Rattle.obj_file.specs.Object.{IsObject, SpellsObject, after_symbol, fix_end, no_fix, after_spot};
 ghost use Rattle.obj_file.specs.ObjectReading as spec;
 ghost use Rattle.obj_file.specs.ObjectReading.{symbol_at, form_at, addend_at, fix_at, spot_at, head_at, object_at};
 
 use crate::fault::{FormFault, Unread};
-use crate::fields::{bytes_of, text_of, u8_at, u8_in, u32_in, u64_at, utf8_of};
+use crate::fields::{
+    access_of, bytes_of, text_of, u8_at, u8_in, u32_in, u64_at, utf8_of, version_of,
+};
 use crate::lists::{Bytes, Text};
 use crate::names::{is_c_name, is_data_sig, is_function_sig};
 use crate::object::{Fix, Fixes, Object, Spot3, Spots3, Symbol, Symbols};
-use crate::parts::{End, Head, Parts};
+use crate::parts::{End, Head, Parts, Version};
 use std::alloc::Global;
 
-const MAGIC: u32 = 0x314F_584D;
+/// `MXO1` and `MXO2`.
+const FIRST_MAGIC: u32 = 0x314F_584D;
+
+const SECOND_MAGIC: u32 = 0x324F_584D;
 
 const CODE: u8 = 1;
 
@@ -171,14 +177,24 @@ fn fix_of(parts: Parts, symbols: u64, before: End, bytes: &[u8]) -> Result<(Fix,
 }
 
 #[tactic(auto, unfolding(crate::specs::ObjectReading::spot_at, crate::specs::Fields::and_then))]
-fn spot_of(code: u64, from: u32, bytes: &[u8]) -> Result<(Spot3, &[u8]), Unread>
-    ensures gives { Gives (λ x. (x.0, x.1.now)) result (spot_at code from bytes.now) }
+fn spot_of(version: Version, code: u64, from: u32, bytes: &[u8]) -> Result<(Spot3, &[u8]), Unread>
+    ensures gives { Gives (λ x. (x.0, x.1.now)) result (spot_at version code from bytes.now) }
     ensures within { IfOk result (λ x. x.0.offset < code) }
 {
     let (offset, rest) = u32_in(from, code, bytes)?;
     let (line, rest) = u32_in(1, 1 << 32, rest)?;
     let (col, rest) = u32_in(1, 1 << 32, rest)?;
-    Ok((Spot3 { offset, line, col }, rest))
+    let (access, rest) = access_of(version, rest)?;
+    Ok((
+        Spot3 {
+            offset,
+            line,
+            col,
+            kind: access.kind,
+            size: access.size,
+        },
+        rest,
+    ))
 }
 
 fn symbols_of(
@@ -225,18 +241,19 @@ fn fixes_of(
 
 fn spots_of(
     alloc: Global,
+    version: Version,
     code: u64,
     count: u32,
     bytes: &[u8],
 ) -> Result<(Vec<Spot3>, &[u8]), Unread>
     requires { code < 4_294_967_296 }
-    ensures { Gives (λ x. (x.0.items, x.1.now)) result (many_at (spot_at code) after_spot count 0 bytes.now) }
+    ensures { Gives (λ x. (x.0.items, x.1.now)) result (many_at (spot_at version code) after_spot count 0 bytes.now) }
 {
     let mut spots = Vec::new(alloc);
     let mut from = 0;
     let mut rest = bytes;
     for _ in 0..count {
-        let (spot, after) = spot_of(code, from, rest)?;
+        let (spot, after) = spot_of(version, code, from, rest)?;
         from = spot.offset + 1;
         spots.push(spot)?;
         rest = after;
@@ -268,12 +285,17 @@ fn all_fixes(
 }
 
 #[tactic(auto, unfolding(crate::specs::Fields::counted_at, crate::specs::Fields::and_then))]
-fn all_spots(alloc: Global, parts: Parts, bytes: &[u8]) -> Result<(Spots3, &[u8]), Unread>
-    ensures { Gives (λ x. (x.0, x.1.now)) result (counted_at (spot_at parts.code) after_spot (rule.most_places parts.legacy) 0 bytes.now) }
+fn all_spots(
+    alloc: Global,
+    version: Version,
+    parts: Parts,
+    bytes: &[u8],
+) -> Result<(Spots3, &[u8]), Unread>
+    ensures { Gives (λ x. (x.0, x.1.now)) result (counted_at (spot_at version parts.code) after_spot (rule.most_places parts.legacy) 0 bytes.now) }
 {
     let most = if parts.legacy { 0 } else { 1_048_576 };
     let (count, rest) = u32_in(0, most + 1, bytes)?;
-    let (spots, rest) = spots_of(alloc, u64::from(parts.code), count, rest)?;
+    let (spots, rest) = spots_of(alloc, version, u64::from(parts.code), count, rest)?;
     Ok((Spots3::from_vec(spots), rest))
 }
 
@@ -293,7 +315,7 @@ fn head_of(alloc: Global, bytes: &[u8]) -> Result<(Head, &[u8]), Unread>
     ensures code { IfOk result (λ x. length x.0.code ≤ 251_658_240) }
     ensures stored { IfOk result (λ x. length x.0.stored ≤ 16_777_216) }
 {
-    let (_, rest) = u32_in(MAGIC, MAGIC as u64 + 1, bytes)?;
+    let (version, rest) = version_of(FIRST_MAGIC, SECOND_MAGIC, bytes)?;
     let (kind, rest) = u8_in(0, 2, rest)?;
     let legacy = kind == 0;
     let (file, rest) = text_of(alloc, 0, 256, rest)?;
@@ -302,6 +324,7 @@ fn head_of(alloc: Global, bytes: &[u8]) -> Result<(Head, &[u8]), Unread>
     let (stored, rest) = held_of(alloc, 16_777_216, rest)?;
     Ok((
         Head {
+            version,
             legacy,
             file,
             code,
@@ -323,8 +346,9 @@ fn object_of(alloc: Global, bytes: &[u8]) -> Result<(Object, &[u8]), Unread>
     };
     let (symbols, rest) = all_symbols(alloc, parts, rest)?;
     let (fixes, rest) = all_fixes(alloc, parts, symbols.as_slice().len() as u64, rest)?;
-    let (places, rest) = all_spots(alloc, parts, rest)?;
+    let (places, rest) = all_spots(alloc, head.version, parts, rest)?;
     let Head {
+        version: _,
         legacy,
         file,
         code,
@@ -360,13 +384,17 @@ fn whole_object(alloc: Global, bytes: &[u8]) -> Result<Object, FormFault>
     }
 }
 
-/// The object that the bytes spell, all of them. `BadForm` gives the offset of the first field that is cut or breaks its rule, a length
-/// and its bytes being two fields, or else that of the first byte after the last field.
+/// The object that the bytes spell, all of them, in either version of the form. A place of the first version has kind 0. `BadForm` gives
+/// the offset of the first field that is cut or breaks its rule, a length and its bytes being two fields, or else that of the first byte
+/// after the last field.
 pub fn read_object(alloc: Global, bytes: &[u8]) -> Result<Object, FormFault>
-    // What is read is an object, and the bytes are its spelling.
-    ensures found { IfOk result (λ o. IsObject o × (bytes.now ≡ object_spelling o)) }
-    // Bytes that are the spelling of an object are read as that object, unless memory is wanting.
-    ensures only { (o : Object) → IsObject o → bytes.now ≡ object_spelling o → Tells result (Ok o) }
+    // What is read is an object, and the bytes spell it: they are its spelling, or that of the first version, and no place has a known kind.
+    ensures found { IfOk result (λ o. IsObject o × SpellsObject bytes.now o) }
+    // Bytes that spell an object are read as that object, unless memory is wanting.
+    ensures only { (o : Object) → IsObject o → SpellsObject bytes.now o → Tells result (Ok o) }
+    // What its parts hold are bytes.
+    ensures code { IfOk result (λ o. All (λ b. b < 256) o.code) }
+    ensures stored { IfOk result (λ o. All (λ b. b < 256) o.stored) }
     // Which offset it is.
     ensures exact { Tells result (spec.object_of bytes.now) }
 {

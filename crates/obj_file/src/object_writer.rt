@@ -3,15 +3,17 @@
 ghost use Rattle.std.specs.Prelude.{◌≡◌, ◌++◌, ◌^◌, ◌<◌, length, OnOk, IfOk};
 ghost use Rattle.std.specs.List.{All};
 ghost use Rattle.std.specs.Int.{w64, cast_unsigned};
+ghost use Rattle.obj_file.specs.declared.parts.Version.TheVariants.{Second};
 ghost use Rattle.obj_file.specs.InTurn.{le, counted};
 ghost use Rattle.obj_file.specs.Object.{IsObject, object_spelling, symbol_text, fix_text, spot_text};
 
 use crate::object::{Fix, Object, Spot3, Symbol};
-use crate::put::{put_long, put_short, put_u8, put_u32};
+use crate::put::{put_access, put_long, put_short, put_u8, put_u32};
 use mx_base::OutOfMemory;
 use std::alloc::{AllocError, Global};
 
-const MAGIC: u32 = 0x314F_584D;
+/// `MXO2`.
+const MAGIC: u32 = 0x324F_584D;
 
 #[tactic(auto, unfolding(crate::specs::Object::symbol_text))]
 fn put_symbol(out: &mut Vec<u8>, symbol: &Symbol) -> Result<(), AllocError>
@@ -46,11 +48,12 @@ fn put_fix(out: &mut Vec<u8>, fix: &Fix) -> Result<(), AllocError>
 
 #[tactic(auto, unfolding(crate::specs::Object::spot_text))]
 fn put_spot(out: &mut Vec<u8>, spot: &Spot3) -> Result<(), AllocError>
-    ensures { OnOk result (out.new.items ≡ out.old.items ++ spot_text spot.now) }
+    ensures { OnOk result (out.new.items ≡ out.old.items ++ spot_text Second spot.now) }
 {
     put_u32(out, spot.offset)?;
     put_u32(out, spot.line)?;
-    put_u32(out, spot.col)
+    put_u32(out, spot.col)?;
+    put_access(out, spot.kind, spot.size)
 }
 
 #[tactic(auto, unfolding(crate::specs::InTurn::counted))]
@@ -82,7 +85,7 @@ fn put_fixes(out: &mut Vec<u8>, fixes: &[Fix]) -> Result<(), AllocError>
 #[tactic(auto, unfolding(crate::specs::InTurn::counted))]
 fn put_spots(out: &mut Vec<u8>, spots: &[Spot3]) -> Result<(), AllocError>
     requires { length spots.now < 2 ^ 32 }
-    ensures { OnOk result (out.new.items ≡ out.old.items ++ counted spot_text spots.now) }
+    ensures { OnOk result (out.new.items ≡ out.old.items ++ counted (spot_text Second) spots.now) }
 {
     put_u32(out, spots.len() as u32)?;
     for spot in spots {
@@ -92,7 +95,7 @@ fn put_spots(out: &mut Vec<u8>, spots: &[Spot3]) -> Result<(), AllocError>
 }
 
 /// The one spelling of an object.
-#[tactic(auto, unfolding(crate::specs::Object::object_spelling))]
+#[tactic(auto, unfolding(crate::specs::Object::object_text))]
 pub fn write_object(alloc: Global, o: &Object) -> Result<Vec<u8>, OutOfMemory>
     requires { IsObject o.now }
     ensures { IfOk result (λ bytes. bytes.items ≡ object_spelling o.now) }

@@ -1,10 +1,27 @@
-//! What the later fields of an object are read by.
+//! What the later fields of an object or image are read by.
 
 use crate::lists::{Bytes, Text};
+
+/// The versions of the forms of objects and images.
+#[derive(Clone, Copy, Drop)]
+pub enum Version {
+    /// Places tell no access. It is still read.
+    First,
+    /// The form that is written.
+    Second,
+}
+
+/// The access that the instruction at a place checks: 0 unknown, 1 read, 2 write, and its size in bytes.
+#[derive(Clone, Copy, Drop)]
+pub struct Access {
+    pub kind: u8,
+    pub size: u32,
+}
 
 /// What stands before an object's symbols.
 #[derive(Drop)]
 pub struct Head {
+    pub version: Version,
     pub legacy: bool,
     pub file: Text,
     pub code: Bytes,

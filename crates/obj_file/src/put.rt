@@ -2,7 +2,9 @@
 
 ghost use Rattle.std.specs.Prelude.{◌≡◌, ◌++◌, ◌^◌, ◌<◌, length, OnOk};
 ghost use Rattle.std.specs.Int.{w8, w32, w64};
+ghost use Rattle.obj_file.specs.declared.parts.Version.TheVariants.{Second};
 ghost use Rattle.obj_file.specs.InTurn.{le, sized};
+ghost use Rattle.obj_file.specs.Versions.{access_text};
 
 use std::alloc::AllocError;
 
@@ -50,4 +52,13 @@ pub fn put_long(out: &mut Vec<u8>, bytes: &[u8]) -> Result<(), AllocError>
     put_u32(out, bytes.len() as u32)?;
     out.extend_from_slice(bytes)?;
     Ok(())
+}
+
+/// The kind and the size of an access.
+#[tactic(auto, unfolding(crate::specs::Versions::access_text))]
+pub fn put_access(out: &mut Vec<u8>, kind: u8, size: u32) -> Result<(), AllocError>
+    ensures { OnOk result (out.new.items ≡ out.old.items ++ access_text Second kind size) }
+{
+    put_u8(out, kind)?;
+    put_u32(out, size)
 }

@@ -6,4 +6,4 @@ use Rattle.obj_file.proofs.Loop.{with_front}
 use Rattle.obj_file.proofs.object_reader.spots_of.Given as goal
 
 abbrev pub invariant-loop : goal.invariant-loop
-invariant-loop l = with_front l.spots.items (many_at (spot_at l.code) after_spot (l.count - l.counter) l.from l.rest) ≡ many_at (spot_at l.code) after_spot l.count 0 l.bytes
+invariant-loop l = with_front l.spots.items (many_at (spot_at l.version l.code) after_spot (l.count - l.counter) l.from l.rest) ≡ many_at (spot_at l.version l.code) after_spot l.count 0 l.bytes
