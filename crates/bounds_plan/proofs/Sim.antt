@@ -10,7 +10,7 @@ use Rattle.fat_ir.specs.Calls.{Outcome, Stops}
 use Rattle.fat_ir.specs.Step.{Symbols, State as T, Next, Reached, On, Over, number_then, bounds_then, held_then, with_value, judged, stop_by, unless_refused, does}
 use Rattle.fat_ir.specs.declared.step.FatStep.TheVariants.{Judge}
 use Rattle.mx_base.specs.declared.places.Place.{Place as PlaceOf}
-use Rattle.mx_base.specs.StopOfC.{Bounds, AccessOfC, AtAccess}
+use Rattle.mx_base.specs.StopOfC.{Bounds, AtAccess}
 use Rattle.mx_base.specs.Bounds.{leaving_value}
 use Rattle.mx_base.specs.Access.{Refusal, refusal}
 use Rattle.std.specs.Option.{option_map}
@@ -118,12 +118,9 @@ module _ (private : ℕ) (sorts : ℕ → Bool) where
         subst S (sym (ap (λ r. and_then r (pass symbols rest)) (read_number _ at_v ∙ read_bounds _ at_b)))
         (by_cases (leaving_value p.address size p.rooted.bounds) h)
       where
-        abbrev the_access : AccessOfC
-        the_access = record { place = place; write = write; size = size }
-
-        by_cases : (o : Option ℕ) → Sim P (go st) (pass symbols rest Next u) → Sim P ((unless (leaves p.rooted.bounds the_access o) >> go) st) (and_then (judged o p.rooted.bounds the_access u) (pass symbols rest))
+        by_cases : (o : Option ℕ) → Sim P (go st) (pass symbols rest Next u) → Sim P ((unless (leaves p.rooted.bounds record { place = place; write = write; size = size } o) >> go) st) (and_then (judged o p.rooted.bounds record { place = place; write = write; size = size } u) (pass symbols rest))
         by_cases None h = h
-        by_cases (Some x) h = ap (λ w. Over (Stops (Bounds x p.rooted.bounds (AtAccess the_access)) w)) (sym same)
+        by_cases (Some x) h = ap (λ w. Over (Stops (Bounds x p.rooted.bounds (AtAccess record { place = place; write = write; size = size })) w)) (sym same)
 
     -- an access on both sides, refused or done
     pub allow_follows : {A : Type 0} (P : A → T → Type 0) (write : Bool) (size : ℕ) (p : Pointer) (go : M A) (i : FatStep) (rest : List FatStep) (st : State) (u : T) (done : Reached)

@@ -15,7 +15,7 @@ use Rattle.c_tree.specs.declared.tree.Expr.{Expr, Expr-F, fold-Expr}
 use Rattle.c_types.specs.Types.{CType, Void, StructType}
 use Rattle.bounds_plan.specs.Core.{NumberExpr, Word, Convert, PointerExpr, Arguments}
 use Rattle.bounds_plan.specs.Sorts.{pairs, pairs_ptr, pairs_all, pairs_effect}
-use Rattle.bounds_plan.specs.ElaborateTypes.{Value, Numeric, Address, number_in, pointer_in, Sort, ANumber, APointer, AWhole, NoValue, sort_of, kind_of, step_in, promoted, common, done_in, keeps, converted, right_operand, wanted_pointer, given_as, given, cast_as}
+use Rattle.bounds_plan.specs.ElaborateTypes.{Value, Numeric, Address, number_in, pointer_in, Sort, ANumber, APointer, AWhole, NoValue, sort_of, kind_of, size_in, step_in, promoted, common, done_in, keeps, converted, right_operand, wanted_pointer, given_as, given, cast_as}
 use Rattle.c_check_rules.specs.declared.predeclared.Bind.{Bind}
 use Rattle.c_check_rules.specs.declared.predeclared.Bind.TheVariants.{Global, Local, Fun, Service, Builtin}
 use Rattle.bounds_plan.specs.ElaborateSource.{Stand, Private, Frame, Reached, Signature, Around, kind_at, bind_at}
@@ -373,7 +373,7 @@ step_short (e.Index a i) place around few r = let x = a.0.0 around r in let y = 
     let h = pointer_short (a.0.1 + 7) x.value (omega arith) (a.1 around few r).value in let k = number_short (i.0.1 + 7) y.value (i.1 around few x.after).value in
     let type = kind_at around y.after in
     a_place_short w type (index around type x y) place _
-        (rule_short (w + 7) (index_rule around type x) (element_at false (size_in around.structs type) (pointer_in x.value) (number_in y.value)) (omega arith) (omega arith))
+    (rule_short (w + 7) (index_rule around type x) (element_at false (size_in around.structs type) (pointer_in x.value) (number_in y.value)) (omega arith) (omega arith))
 step_short (e.Member a name) place around few r = let x = a.0.0 around r in let h = pointer_short (a.0.1 + 7) x.value (omega arith) (a.1 around few r).value in a_place_short a.0.1 (kind_at around x.after) (member around (kind_at around x.after) x name) place _ (omega arith)
 step_short (e.Arrow a name) place around few r = let x = a.0.0 around r in let h = pointer_short (a.0.1 + 7) x.value (omega arith) (a.1 around few r).value in a_place_short a.0.1 (kind_at around x.after) (arrow around (kind_at around x.after) x name) place _ (omega arith)
 step_short (e.Cast base stars a) place around few r = let x = a.0.0 around r in no_place_short a.0.1 (kind_at around x.after) _ place _ (cast_short (a.0.1 + 7) (sort_of (kind_at around x.after)) x.type x.value (omega arith) (a.1 around few r).value)

@@ -1,4 +1,4 @@
-use Rattle.std.proofs.Common.{refl, ap, ◌∙◌, ◌≡◌, []}
+use Rattle.std.proofs.Common.{refl, ap, ◌∙◌, ◌≡◌, true, []}
 use Rattle.std.specs.Fmt.{digits}
 use Rattle.mx_base.specs.Numbers.{residue, as_signed, number_of, value_of, wrapped, word_of, extended}
 use Rattle.mx_base.specs.Operators.{arithmetic, compares, word_arithmetic, word_compares, arithmetic_at, comparison_at}
@@ -22,7 +22,7 @@ use Rattle.mx_base.specs.StopOfC.{Exit}
 use Rattle.bounds_plan.specs.Worked.{narrowing, other_flags_alone, first_object}
 use Rattle.bounds_plan.specs.WorkedSources.{prints_members}
 use Rattle.bounds_plan.specs.WorkedFlags.{trailing_array, nested_array, row_pointed_to}
-use Rattle.bounds_plan.specs.WorkedRuns.{runs_of, steps_run_of, data_of, said, saying, objects_apart}
+use Rattle.bounds_plan.specs.WorkedRuns.{runs_of, steps_run_of, data_of, said, saying}
 use Rattle.bounds_plan.proofs.sources.flags_decide_bounds_so.Goals as goal
 
 first_members_laid : said (runs_of (elaborated_laid prints_members.tree prints_members.meanings prints_members.layout narrowing) prints_members.layout.functions first_object (data_of prints_members first_object) 4096 0 [] 10) ≡ saying (Exit 0) (codes "536870912\n536870927\n536870916\n536870923\n")

@@ -17,7 +17,6 @@ use Rattle.c_tree.specs.declared.tree.InitKind.TheBlock.{shape-the_row-Init-0, h
 use Rattle.c_tree.specs.declared.tree.StmtKind.TheBlock.{shape-the_row-Stmt-0, hidden-the_row-Stmt-0, shown-the_row-Stmt-0, shape-the_row-Stmt-1, hidden-the_row-Stmt-1, shown-the_row-Stmt-1}
 use Rattle.bounds_plan.proofs.Laid.{elaborations_same, elaborated_laid}
 use Rattle.bounds_plan.specs.ElaborateFunctions.{gone_by}
-use Rattle.std.specs.Prelude.{codes}
 use Rattle.mx_base.specs.StopOfC.{Bounds, read_of, write_of}
 use Rattle.bounds_plan.specs.Worked.{narrowing, pair, at}
 use Rattle.bounds_plan.specs.WorkedFlags.{steps_element_4, adds_to_element_4, copies_from_bytes, copies_to_bytes}
