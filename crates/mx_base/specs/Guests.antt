@@ -1,5 +1,5 @@
 -- What a guest is that services leave so: an input of bytes, and a heap whose ranges lie in its region.
-use Rattle.std.specs.Prelude.{ℕ, ◌<◌, ◌≤◌, List}
+use Rattle.std.specs.Prelude.{ℕ, ◌<◌, ◌≤◌, Option, None, Some, List}
 use Rattle.std.specs.List.{AllByRecursion}
 use Rattle.mx_base.specs.Bounds.{addresses}
 use Rattle.mx_base.specs.Heap.{Range, range_end}
@@ -26,3 +26,8 @@ AnswerFits (Answers word g) = (word < addresses) × GuestFits g
 AnswerFits (Exits code) = Unit {0}
 AnswerFits Overflows = Unit {0}
 AnswerFits (Refused why) = Unit {0}
+
+-- what a source tells is bytes, where it tells
+abbrev pub TellsBytes : Option (List ℕ) → Type 0
+TellsBytes None = Unit {0}
+TellsBytes (Some bytes) = InputFits bytes

@@ -5,6 +5,7 @@
 //! over memory tells, and one over real files tells nothing.
 ghost use Rattle.std.specs.Prelude.{◌≡◌, ◌≢◌, ℕ, List, Option, IsErr, OnOk, OnErr};
 ghost use Rattle.mx_base.specs.Outside.{FileFacts, Untold, Reads, HoldsWhereTold, KeepsWhereTold, Takes, Puts, Counts};
+ghost use Rattle.mx_base.specs.Guests.{TellsBytes};
 
 use std::error::Error;
 use std::fmt;
@@ -71,9 +72,10 @@ pub trait Source {
         ensures answer { Takes (left self.old) (left self.new) buf.new result }
         ensures faults { Counts result (faults self.old) (faults self.new) };
 
-    /// How many calls of `take` failed, as far as a `u64` counts.
+    /// How many calls of `take` failed, as far as a `u64` counts. What is told of the bytes left is bytes.
     fn faults(&self) -> u64
-        ensures { result ≡ faults self.now };
+        ensures count { result ≡ faults self.now }
+        ensures bytes { TellsBytes (left self.now) };
 }
 
 /// A sink of bytes, as standard output. A proof sees the bytes that it holds, where they are told.

@@ -68,6 +68,7 @@ impl Source for MemSource {
     }
 
     fn faults(&self) -> u64 {
+        self.left.are_bytes();
         self.faults
     }
 }

@@ -1,6 +1,7 @@
 //! Bytes that are taken from the front.
 ghost use Rattle.std.specs.Prelude.{◌≡◌, ℕ, length, drop, min, IfOk};
 ghost use Rattle.mx_base.specs.Front.{laid_over};
+ghost use Rattle.mx_base.specs.Guests.{InputFits};
 
 use super::front::copy_front;
 use super::memory::OutOfMemory;
@@ -45,4 +46,18 @@ impl Rest {
         self.at += count;
         count
     }
+
+    /// Does nothing: those left are bytes.
+    pub fn are_bytes(&self)
+        ensures { InputFits self.now }
+    {
+        are_bytes(&self.bytes[self.at..]);
+    }
+}
+
+/// Does nothing: bytes are below 256.
+fn are_bytes(bytes: &[u8])
+    ensures { InputFits bytes.now }
+{
+    let _count = bytes.len();
 }

@@ -51,6 +51,7 @@ impl Source for SureSource {
     }
 
     fn faults(&self) -> u64 {
+        self.left.are_bytes();
         0
     }
 }

@@ -239,3 +239,124 @@ module _ {X : Type 0} (g : Ground X) where
   pub final_turn : (m : Moment X) (turns : ℕ) (t : State X) → m.turns ≡ suc turns → event g m.state ≡ Goes true t → clean_now g m.state ≡ true
       → final g m ≡ final g record { state = t; turns = turns; accesses = m.accesses ++ accesses_now g m.state }
   final_turn m turns t left e c = final_step m ∙ ap (final_after g m) e ∙ ap (λ (n : ℕ). if_turns g m n (λ u. gone_on g m u t)) left ∙ clean_behind _ _ c
+
+-- ---- more turns
+
+both_assoc : (a b c : Bool) → ((a && b) && c) ≡ (a && (b && c))
+both_assoc true b c = refl
+both_assoc false b c = refl
+
+both_again : (a b : Bool) → (a && (a && b)) ≡ (a && b)
+both_again true b = refl
+both_again false b = refl
+
+module _ {X : Type 0} (g : Ground X) where
+  -- the accesses, and whether the run is clean, with `extra` turns more
+  abbrev Goes_on : ℕ → ℕ → State X → State X → Type 0
+  Goes_on turns extra s last = (accesses_of g (turns + extra) s ≡ accesses_of g turns s ++ accesses_of g extra last) × (clean_of g (turns + extra) s ≡ (clean_of g turns s && clean_of g extra last))
+
+  -- the same of what stands behind an event
+  abbrev On_after : ℕ → ℕ → State X → State X → Event X → Type 0
+  On_after turns extra s last e = (and_later (accesses_of g) (turns + extra) (accesses_now g s) e ≡ and_later (accesses_of g) turns (accesses_now g s) e ++ accesses_of g extra last)
+      × (and_clean (clean_of g) (turns + extra) (clean_now g s) e ≡ (and_clean (clean_of g) turns (clean_now g s) e && clean_of g extra last))
+
+  -- a clean run has a clean first event
+  first_clean : (turns : ℕ) (s : State X) (e : Event X) → (clean_now g s && and_clean (clean_of g) turns (clean_now g s) e) ≡ and_clean (clean_of g) turns (clean_now g s) e
+  first_clean turns s (Goes false t) = both_again (clean_now g s) (clean_of g turns t)
+  first_clean zero s (Goes true t) = same (clean_now g s)
+    where
+      same : (b : Bool) → (b && b) ≡ b
+      same true = refl
+      same false = refl
+  first_clean (suc turns) s (Goes true t) = both_again (clean_now g s) (clean_of g turns t)
+  first_clean turns s (Stops turn why t) = same (clean_now g s)
+    where
+      same : (b : Bool) → (b && b) ≡ b
+      same true = refl
+      same false = refl
+
+  out_of_turns : (extra : ℕ) (s last : State X) (e : Event X) → event g s ≡ e → s ≡ last
+      → (accesses_of g extra s ≡ accesses_of g extra last) × (and_clean (clean_of g) extra (clean_now g s) e ≡ (clean_now g s && clean_of g extra last))
+  out_of_turns extra s last e is same =
+      (ap (accesses_of g extra) same, sym (first_clean extra s e) ∙ ap (λ (b : Bool). clean_now g s && b) (ap (and_clean (clean_of g) extra (clean_now g s)) (sym is) ∙ sym (clean_step g extra s) ∙ ap (clean_of g extra) same))
+
+  more_after : (turns extra : ℕ) (s last : State X) (e : Event X) → event g s ≡ e → IsForward s e
+      → ((u : ℕ) (t : State X) → room u t < room turns s → run_of g u t ≡ Out last → Goes_on u extra t last)
+      → after (run_of g) turns s e ≡ Out last → On_after turns extra s last e
+  more_after turns extra s last (Goes false t) is fw ih h =
+      let on = ih turns t (room_falls g turns s t fw.0 fw.1) h in
+      (ap (λ (l : List Access). accesses_now g s ++ l) on.0 ∙ sym (append_assoc (accesses_now g s) (accesses_of g turns t) (accesses_of g extra last)),
+        ap (λ (b : Bool). clean_now g s && b) on.1 ∙ sym (both_assoc (clean_now g s) (clean_of g turns t) (clean_of g extra last)))
+  more_after zero extra s last (Goes true t) is fw ih h =
+      let same : s ≡ last = cc in
+      let e : Event X = Goes true t in
+      let out = out_of_turns extra s last e is same in
+      let start : zero + extra ≡ extra = omega arith in
+      (ap (λ (n : ℕ). and_later (accesses_of g) n (accesses_now g s) e) start ∙ ap (and_later (accesses_of g) extra (accesses_now g s)) (sym is) ∙ sym (accesses_step g extra s) ∙ out.0,
+        ap (λ (n : ℕ). and_clean (clean_of g) n (clean_now g s) e) start ∙ out.1)
+  more_after (suc u) extra s last (Goes true t) is fw ih h =
+      let on = ih u t (room_falls_turn g u s t) h in
+      let e : Event X = Goes true t in
+      let left : suc u + extra ≡ suc (u + extra) = omega arith in
+      (ap (λ (n : ℕ). and_later (accesses_of g) n (accesses_now g s) e) left ∙ ap (λ (l : List Access). accesses_now g s ++ l) on.0 ∙ sym (append_assoc (accesses_now g s) (accesses_of g u t) (accesses_of g extra last)),
+        ap (λ (n : ℕ). and_clean (clean_of g) n (clean_now g s) e) left ∙ ap (λ (b : Bool). clean_now g s && b) on.1 ∙ sym (both_assoc (clean_now g s) (clean_of g u t) (clean_of g extra last)))
+  more_after zero extra s last (Stops false e left) is fw ih h = absurd cc
+  more_after (suc u) extra s last (Stops false e left) is fw ih h = absurd cc
+  more_after zero extra s last (Stops true why left) is fw ih h =
+      let same : s ≡ last = cc in
+      let e : Event X = Stops true why left in
+      let out = out_of_turns extra s last e is same in
+      let start : zero + extra ≡ extra = omega arith in
+      (ap (λ (n : ℕ). and_later (accesses_of g) n (accesses_now g s) e) start ∙ ap (and_later (accesses_of g) extra (accesses_now g s)) (sym is) ∙ sym (accesses_step g extra s) ∙ out.0,
+        ap (λ (n : ℕ). and_clean (clean_of g) n (clean_now g s) e) start ∙ out.1)
+  more_after (suc u) extra s last (Stops true e left) is fw ih h = absurd cc
+
+  more_within : (n turns extra : ℕ) (s last : State X) → room turns s ≤ n → run_of g turns s ≡ Out last → Goes_on turns extra s last
+  more_within zero turns extra s last l h = let p = some_room g turns s in absurd (omega arith)
+  more_within (suc n) turns extra s last l h =
+      let on = more_after turns extra s last (event g s) refl (event_forward g s) (λ u t m. more_within n u extra t last (omega arith)) (sym (run_step g turns s) ∙ h) in
+      (accesses_step g (turns + extra) s ∙ on.0 ∙ ap (λ (l : List Access). l ++ accesses_of g extra last) (sym (accesses_step g turns s)),
+        clean_step g (turns + extra) s ∙ on.1 ∙ ap (λ (b : Bool). b && clean_of g extra last) (sym (clean_step g turns s)))
+
+  -- a run that is out of turns and goes on with more
+  pub final_more : (turns extra : ℕ) (s last : State X) (made : List Access) → run_of g turns s ≡ Out last
+      → final g record { state = s; turns = turns + extra; accesses = made } ≡ behind (clean_of g turns s) (final g record { state = last; turns = extra; accesses = made ++ accesses_of g turns s })
+  final_more turns extra s last made h =
+      let on = more_within (room turns s) turns extra s last (omega arith) h in
+      three_same _ _ _ _ _ _ (run_more g turns extra s last h) (ap (λ (l : List Access). made ++ l) on.0 ∙ sym (append_assoc made (accesses_of g turns s) (accesses_of g extra last))) on.1
+
+  -- ---- a run that stopped
+
+  abbrev Stays_so : ℕ → ℕ → State X → Type 0
+  Stays_so turns extra s = (accesses_of g (turns + extra) s ≡ accesses_of g turns s) × (clean_of g (turns + extra) s ≡ clean_of g turns s)
+
+  abbrev So_after : ℕ → ℕ → State X → Event X → Type 0
+  So_after turns extra s e = (and_later (accesses_of g) (turns + extra) (accesses_now g s) e ≡ and_later (accesses_of g) turns (accesses_now g s) e)
+      × (and_clean (clean_of g) (turns + extra) (clean_now g s) e ≡ and_clean (clean_of g) turns (clean_now g s) e)
+
+  stop_after : (turns extra : ℕ) (s last : State X) (why : Stop) (e : Event X) → IsForward s e
+      → ((u : ℕ) (t : State X) → room u t < room turns s → run_of g u t ≡ Stopped why last → Stays_so u extra t)
+      → after (run_of g) turns s e ≡ Stopped why last → So_after turns extra s e
+  stop_after turns extra s last why (Goes false t) fw ih h =
+      let so = ih turns t (room_falls g turns s t fw.0 fw.1) h in
+      (ap (λ (l : List Access). accesses_now g s ++ l) so.0, ap (λ (b : Bool). clean_now g s && b) so.1)
+  stop_after zero extra s last why (Goes true t) fw ih h = absurd cc
+  stop_after (suc u) extra s last why (Goes true t) fw ih h =
+      let so = ih u t (room_falls_turn g u s t) h in
+      let e : Event X = Goes true t in
+      let left : suc u + extra ≡ suc (u + extra) = omega arith in
+      (ap (λ (n : ℕ). and_later (accesses_of g) n (accesses_now g s) e) left ∙ ap (λ (l : List Access). accesses_now g s ++ l) so.0,
+        ap (λ (n : ℕ). and_clean (clean_of g) n (clean_now g s) e) left ∙ ap (λ (b : Bool). clean_now g s && b) so.1)
+  stop_after turns extra s last why (Stops b also left) fw ih h = (refl, refl)
+
+  stop_within : (n turns extra : ℕ) (s last : State X) (why : Stop) → room turns s ≤ n → run_of g turns s ≡ Stopped why last → Stays_so turns extra s
+  stop_within zero turns extra s last why l h = let p = some_room g turns s in absurd (omega arith)
+  stop_within (suc n) turns extra s last why l h =
+      let so = stop_after turns extra s last why (event g s) (event_forward g s) (λ u t m. stop_within n u extra t last why (omega arith)) (sym (run_step g turns s) ∙ h) in
+      (accesses_step g (turns + extra) s ∙ so.0 ∙ sym (accesses_step g turns s), clean_step g (turns + extra) s ∙ so.1 ∙ sym (clean_step g turns s))
+
+  pub final_stopped : (turns extra : ℕ) (s last : State X) (why : Stop) (made : List Access) → run_of g turns s ≡ Stopped why last
+      → final g record { state = s; turns = turns + extra; accesses = made } ≡ final g record { state = s; turns = turns; accesses = made }
+  final_stopped turns extra s last why made h =
+      let so = stop_within (room turns s) turns extra s last why (omega arith) h in
+      three_same _ _ _ _ _ _ (run_ended g turns extra s last why h ∙ sym h) (ap (λ (l : List Access). made ++ l) so.0) so.1

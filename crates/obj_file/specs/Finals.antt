@@ -97,8 +97,8 @@ ended_there g m end = record { end = end; accesses = m.accesses; clean = clean_n
 
 -- an event that takes a turn happens only if one is left
 abbrev pub if_turns : {X : Type 0} → Ground X → Moment X → ℕ → (ℕ → Final X) → Final X
-if_turns g m zero then = ended_there g m (Out m.state)
-if_turns g m (suc turns) then = then turns
+if_turns g m zero go = ended_there g m (Out m.state)
+if_turns g m (suc turns) go = go turns
 
 -- an event at a moment and the run from there
 abbrev pub final_after : {X : Type 0} → Ground X → Moment X → Event X → Final X

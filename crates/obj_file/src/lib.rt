@@ -30,8 +30,10 @@ pub use object::{Fix, Fixes, Object, Spot3, Spots3, Symbol, Symbols};
 pub use object_reader::read_object;
 pub use object_writer::write_object;
 pub use run_laws::{
-    a_run_is_its_first_event_and_the_rest, events_take_one_turn, quiet_events_may_be_left_out,
-    runs_go_on, stopped_runs_stay_so,
+    a_run_is_its_first_event_and_the_rest, clean_runs_stay_out, events_take_one_turn,
+    events_take_one_turn_of_finals, finals_are_their_first_event_and_the_rest, finals_go_on,
+    quiet_events_may_be_left_out, quiet_events_may_be_left_out_of_finals, runs_go_on,
+    stopped_finals_stay_so, stopped_runs_stay_so,
 };
 pub use store_laws::{
     a_small_image_runs_alike, either_run_stays_out, events_go_alike,
