@@ -25,9 +25,9 @@ mod Outside
 mod Parts
 mod Pieces
 mod Rooted
-mod RootedCalls
-mod Roots
-mod Runs
+pub mod RootedCalls
+pub mod Roots
+pub mod Runs
 mod Sim
 mod Sorts
 mod Spans

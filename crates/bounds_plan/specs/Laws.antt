@@ -77,15 +77,15 @@ pub record OnlyWrites (w : World) (log : Log) (u : World) (after : Log) : Type 0
 
 -- ---- runs in pieces
 
--- what the events of code outside of a program do to a world and its log, which may be anything; numbers tell which event it is, as those of
--- an instruction and its registers
+-- what the events of code outside of a program do to a world and its log, which may be anything; functions of numbers tell which event it
+-- is, as the registers of a processor do
 abbrev pub Events : Type 0
-Events = List ℕ → World → Log → World × Log
+Events = List (ℕ → ℕ) → World → Log → World × Log
 
 -- a run goes in pieces, each of which is an event outside, or one of C, where memory and the bounds that are kept change by writes alone
 pub data InPieces (event : Events) : World → Log → World → Log → Type 0 where
   PieceOfC : (w : World) → (log : Log) → (u : World) → (after : Log) → (is : OnlyWrites w log u after) → InPieces event w log u after
-  EventOutside : (w : World) → (log : Log) → (u : World) → (after : Log) → (numbers : List ℕ) → (is : event numbers w log ≡ (u, after)) → InPieces event w log u after
+  EventOutside : (w : World) → (log : Log) → (u : World) → (after : Log) → (which : List (ℕ → ℕ)) → (is : event which w log ≡ (u, after)) → InPieces event w log u after
   Joined : (w : World) → (log : Log) → (u : World) → (middle : Log) → (v : World) → (after : Log) → (first : InPieces event w log u middle) → (rest : InPieces event u middle v after) → InPieces event w log v after
 
 -- ---- structs that are copied

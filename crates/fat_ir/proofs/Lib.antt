@@ -2,6 +2,6 @@ mod Judgements
 pub mod Lists
 mod Quiet
 mod Rooms
-mod Runs
+pub mod Runs
 mod Spans
 pub mod Worlds

@@ -14,7 +14,7 @@ use Rattle.fat_ir.specs.Calls.{Outcome, Comes, Stops, Stuck, Callee, with_turns,
 use Rattle.mx_base.specs.StopOfC.{StackOver as StackIsOver}
 use Rattle.fat_ir.specs.Step.{served_in_c}
 use Rattle.fat_ir.specs.Functions.{Linked, body_run, calls}
-use Rattle.fat_ir.specs.Laws.{Leads, NoMoreTurns, OutputGrows, AccessesGrow, Traced, AccessesAllowed, Events, InPieces, PieceOfSteps, Joined, NoneRefused, NotWritten, SameFrame, Anywhere}
+use Rattle.fat_ir.specs.Laws.{Leads, NoMoreTurns, OutputGrows, AccessesGrow, Traced, AccessesAllowed, Events, InPieces, PieceOfSteps, Joined, NoneRefused, NotWritten, SameFrame, SameLegacyStack, Anywhere}
 use Rattle.fat_ir.proofs.Runs.{Keeps}
 
 pub fewer : Keeps NoMoreTurns NoMoreTurns
@@ -264,3 +264,16 @@ frames_given_back program outside (suc depth) f args w = turned w.turns w _ (λ 
     let body : World → Outcome = λ x. body_run (program f) (calls program outside depth) (outside (calls program outside depth)) args x in
     let P : ℕ → Type 0 = λ sp. Leads (λ x. x.data_sp ≡ sp) (λ x. Unit {0}) (entering (program f).fun.frame u (λ x. returning u.data_sp (body x))) in
     subst P e (entered u.data_sp (program f).fun.frame u (λ x. returning u.data_sp (body x)) (λ x. given_back u.data_sp (body x))))
+
+pub same_legacy_stack : Keeps SameLegacyStack Anywhere
+same_legacy_stack = record {
+  same = λ w. refl;
+  join = λ w u v h g. g ∙ h;
+  ends = λ w. tt;
+  last = λ w u v h g. tt;
+  read = λ w n a e. refl;
+  wrote = λ w n a v e. refl;
+  stored = λ w s. refl;
+  served = λ w number word answer g e. refl;
+  turned = λ w n e. refl;
+}

@@ -68,15 +68,15 @@ pub record AccessesAllowed (before after : World) : Type 0 where
   pub is : after.accesses ≡ before.accesses ++ more
   pub allowed : NoneRefused more
 
--- what the events of code outside of a program do to a world, which may be anything; numbers tell which event it is, as those of an
--- instruction and its registers
+-- what the events of code outside of a program do to a world, which may be anything; functions of numbers tell which event it is, as the
+-- registers of a processor do
 abbrev pub Events : Type 0
-Events = List ℕ → World → World
+Events = List (ℕ → ℕ) → World → World
 
 -- a run goes in pieces, each of which is an event outside, or one of steps, where memory changes by the accesses alone
 pub data InPieces (event : Events) : World → World → Type 0 where
   PieceOfSteps : (before : World) → (after : World) → (is : Traced before after) → InPieces event before after
-  EventOutside : (before : World) → (after : World) → (numbers : List ℕ) → (is : event numbers before ≡ after) → InPieces event before after
+  EventOutside : (before : World) → (after : World) → (which : List (ℕ → ℕ)) → (is : event which before ≡ after) → InPieces event before after
   Joined : (before : World) → (middle : World) → (after : World) → (first : InPieces event before middle) → (rest : InPieces event middle after) → InPieces event before after
 
 -- the data frame stands where it stood
@@ -89,6 +89,14 @@ Anywhere before after = Unit {0}
 -- each call that comes back leaves the data frame of its caller where it stood
 abbrev pub FramesGivenBack : Callee → Type 0
 FramesGivenBack call = (f : ℕ) (args : List Value) (w : World) → Leads (SameFrame w) (Anywhere w) (call f args w)
+
+-- the stack of legacy code stands where it stood
+abbrev pub SameLegacyStack : World → World → Type 0
+SameLegacyStack before after = after.legacy_sp ≡ before.legacy_sp
+
+-- each call that comes back leaves it so
+abbrev pub LegacyStackGivenBack : Callee → Type 0
+LegacyStackGivenBack call = (f : ℕ) (args : List Value) (w : World) → Leads (SameLegacyStack w) (Anywhere w) (call f args w)
 
 -- ---- single steps
 

@@ -15,7 +15,7 @@ ghost use Rattle.fat_ir.specs.Run.{pass, and_then, followed, steps_run};
 ghost use Rattle.fat_ir.specs.Functions.{Linked, calls};
 ghost use Rattle.fat_ir.specs.Named.{writes};
 ghost use Rattle.fat_ir.specs.Spans.{Range, Spans, shared};
-ghost use Rattle.fat_ir.specs.Laws.{LeftByCalls, LeftOutside, Leaves, FramesGivenBack, NoMoreTurns, OutputGrows, AccessesGrow, Traced, AccessesAllowed, Events, InPieces, passes_on, WorldAfter, ValuesAfter, IsNone, is_quiet, LeavesMemory, LacksLabel};
+ghost use Rattle.fat_ir.specs.Laws.{LeftByCalls, LeftOutside, Leaves, FramesGivenBack, LegacyStackGivenBack, NoMoreTurns, OutputGrows, AccessesGrow, Traced, AccessesAllowed, Events, InPieces, passes_on, WorldAfter, ValuesAfter, IsNone, is_quiet, LeavesMemory, LacksLabel};
 
 /// Whatever is called leaves no more turns than there were: then no run of steps does, and no run of a program.
 pub fn turns_never_grow()
@@ -64,6 +64,13 @@ pub fn outside_can_keep_to_laws()
 pub fn frames_are_given_back()
     ensures steps { (symbols : Symbols) → FramesGivenBack symbols.call → (steps : List FatStep) (going onward : Going) (s t : State) → pass symbols steps going s ≡ On onward t → t.world.data_sp ≡ s.world.data_sp }
     ensures programs { (program : ℕ → Linked) (outside : Callee → Callee) (depth : ℕ) → FramesGivenBack (calls program outside depth) }
+{}
+
+/// While steps run, the stack of legacy code stays where it is, if whatever is called leaves it there; and a function of a
+/// program leaves it there, if what is outside does so wherever the program does.
+pub fn the_legacy_stack_is_given_back()
+    ensures steps { (symbols : Symbols) → LegacyStackGivenBack symbols.call → (steps : List FatStep) (going onward : Going) (s t : State) → pass symbols steps going s ≡ On onward t → t.world.legacy_sp ≡ s.world.legacy_sp }
+    ensures programs { (program : ℕ → Linked) (outside : Callee → Callee) → ((own : Callee) → LegacyStackGivenBack own → LegacyStackGivenBack (outside own)) → (depth : ℕ) → LegacyStackGivenBack (calls program outside depth) }
 {}
 
 /// A run of steps is a pass over them; and where that ends on the way to a label that stands before, a turn is taken and the

@@ -9,7 +9,8 @@ mod worked;
 pub use laws::{
     accesses_are_allowed, accesses_are_traced, frames_are_given_back, judgements_are_exact,
     other_values_stay, output_only_grows, outside_can_keep_to_laws, passes_join,
-    quiet_steps_leave_memory, runs_are_passes, spans_are_least_ranges, turns_never_grow,
+    quiet_steps_leave_memory, runs_are_passes, spans_are_least_ranges,
+    the_legacy_stack_is_given_back, turns_never_grow,
 };
 pub use program::{FatFun, FatProgram};
 pub use step::FatStep;

@@ -7,6 +7,14 @@ pub mod ObjectLaws
 pub mod LoadedLaws
 pub mod RunLaws
 pub mod FinalLaws
+pub mod EventsAlone
+pub mod EventsKeep
+pub mod CodeStays
+pub mod Readers
+pub mod LegacyPrograms
+pub mod LegacyRows
+pub mod LegacyDeeds
+pub mod LegacyEvents
 pub mod StoredPlaces
 pub mod StoredBytes
 pub mod StoredTouched

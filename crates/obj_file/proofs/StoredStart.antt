@@ -33,7 +33,7 @@ list_bytes [] m a bytes small = bytes
 list_bytes (b ∷ bs) m a bytes small =
     list_bytes bs (with_byte m a b) (a + 1) (AreBytes-with_byte m a b bytes (All-head (λ b. b < 256) b bs small)) (All-tail (λ b. b < 256) b bs small)
 
-segments_bytes : (segments : List Segment) (m : Bytes) → AreBytes m → HaveBytes segments → AreBytes (with_segments m segments)
+pub segments_bytes : (segments : List Segment) (m : Bytes) → AreBytes m → HaveBytes segments → AreBytes (with_segments m segments)
 segments_bytes [] m bytes h = bytes
 segments_bytes (s ∷ rest) m bytes h = segments_bytes rest (with_list m s.at s.bytes) (list_bytes s.bytes m s.at bytes h.0) h.1
 

@@ -12,4 +12,9 @@ pub mod Loaded
 pub mod Stored
 pub mod StoreLaw
 pub mod Finals
+pub mod Beside
+pub mod Keeping
+pub mod CodeStays
+pub mod Readers
+pub mod LegacyEvents
 pub mod ExamplesOfStore
