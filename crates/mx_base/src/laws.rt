@@ -1,7 +1,7 @@
 //! Laws of the definitions in `specs/`. Each function does nothing, and its contract is the law.
-ghost use Rattle.std.specs.Prelude.{◌≡◌, ℕ, ◌+◌, ◌%◌, ◌^◌, ◌<◌, ◌≤◌, true, false, Option, Some, List, length};
+ghost use Rattle.std.specs.Prelude.{◌≡◌, ℕ, ◌+◌, ◌%◌, ◌^◌, ◌<◌, ◌≤◌, true, false, not, ◌&&◌, Option, Some, List, length};
 ghost use Rattle.mx_base.specs.declared.limits.Bounds.{Bounds as BoundsPair};
-ghost use Rattle.mx_base.specs.Regions.{is_executable, is_writable, is_sealed, is_open_to_read, is_open_to_write};
+ghost use Rattle.mx_base.specs.Regions.{is_executable, is_readable, is_writable, is_sealed, is_open_to_read, is_open_to_write};
 ghost use Rattle.mx_base.specs.Memory.{Bytes, number_at, with_number, list_at, with_list};
 ghost use Rattle.mx_base.specs.BoundsStore.{BoundsStore, StoreCall, store_after, load_bounds, bounds_for, last_kept, granule};
 ghost use Rattle.mx_base.specs.Bounds.{addresses};
@@ -18,6 +18,12 @@ pub fn code_is_never_writable()
 pub fn sealed_bytes_are_not_open()
     ensures read { (a : ℕ) → is_sealed a ≡ true → is_open_to_read a ≡ false }
     ensures write { (a : ℕ) → is_sealed a ≡ true → is_open_to_write a ≡ false }
+{}
+
+/// An address is open exactly where it is accessible and not sealed.
+pub fn open_addresses_are_accessible_and_not_sealed()
+    ensures read { (a : ℕ) → is_open_to_read a ≡ (is_readable a && not (is_sealed a)) }
+    ensures write { (a : ℕ) → is_open_to_write a ≡ (is_writable a && not (is_sealed a)) }
 {}
 
 /// A number that was written is read back as far as its bytes hold it, and every other byte is as before.

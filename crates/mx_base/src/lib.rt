@@ -27,7 +27,8 @@ pub use externals::{Failed, Files, Sink, Source};
 pub use laws::{
     bytes_are_read_back, code_is_never_writable, heap_lists_stay_in_order,
     live_blocks_never_overlap, loads_answer_the_last_keep, numbers_are_read_back,
-    sealed_bytes_are_not_open, services_keep_the_guest_fit,
+    open_addresses_are_accessible_and_not_sealed, sealed_bytes_are_not_open,
+    services_keep_the_guest_fit,
 };
 pub use limits::{Bounds, full, meet, outside};
 pub use mem_files::MemFiles;
