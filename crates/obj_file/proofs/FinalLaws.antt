@@ -284,39 +284,44 @@ module _ {X : Type 0} (g : Ground X) where
       → ((u : ℕ) (t : State X) → room u t < room turns s → run_of g u t ≡ Out last → Goes_on u extra t last)
       → after (run_of g) turns s e ≡ Out last → On_after turns extra s last e
   more_after turns extra s last (Goes false t) is fw ih h =
-      let on = ih turns t (room_falls g turns s t fw.0 fw.1) h in
-      (ap (λ (l : List Access). accesses_now g s ++ l) on.0 ∙ sym (append_assoc (accesses_now g s) (accesses_of g turns t) (accesses_of g extra last)),
-        ap (λ (b : Bool). clean_now g s && b) on.1 ∙ sym (both_assoc (clean_now g s) (clean_of g turns t) (clean_of g extra last)))
+      let on = ih turns t (room_falls g turns s t fw.0 fw.1) h in (
+        ap (λ (l : List Access). accesses_now g s ++ l) on.0 ∙ sym (append_assoc (accesses_now g s) (accesses_of g turns t) (accesses_of g extra last)),
+        ap (λ (b : Bool). clean_now g s && b) on.1 ∙ sym (both_assoc (clean_now g s) (clean_of g turns t) (clean_of g extra last)),
+      )
   more_after zero extra s last (Goes true t) is fw ih h =
       let same : s ≡ last = cc in
       let e : Event X = Goes true t in
       let out = out_of_turns extra s last e is same in
-      let start : zero + extra ≡ extra = omega arith in
-      (ap (λ (n : ℕ). and_later (accesses_of g) n (accesses_now g s) e) start ∙ ap (and_later (accesses_of g) extra (accesses_now g s)) (sym is) ∙ sym (accesses_step g extra s) ∙ out.0,
-        ap (λ (n : ℕ). and_clean (clean_of g) n (clean_now g s) e) start ∙ out.1)
+      let start : zero + extra ≡ extra = omega arith in (
+        ap (λ (n : ℕ). and_later (accesses_of g) n (accesses_now g s) e) start ∙ ap (and_later (accesses_of g) extra (accesses_now g s)) (sym is) ∙ sym (accesses_step g extra s) ∙ out.0,
+        ap (λ (n : ℕ). and_clean (clean_of g) n (clean_now g s) e) start ∙ out.1,
+      )
   more_after (suc u) extra s last (Goes true t) is fw ih h =
       let on = ih u t (room_falls_turn g u s t) h in
       let e : Event X = Goes true t in
-      let left : suc u + extra ≡ suc (u + extra) = omega arith in
-      (ap (λ (n : ℕ). and_later (accesses_of g) n (accesses_now g s) e) left ∙ ap (λ (l : List Access). accesses_now g s ++ l) on.0 ∙ sym (append_assoc (accesses_now g s) (accesses_of g u t) (accesses_of g extra last)),
-        ap (λ (n : ℕ). and_clean (clean_of g) n (clean_now g s) e) left ∙ ap (λ (b : Bool). clean_now g s && b) on.1 ∙ sym (both_assoc (clean_now g s) (clean_of g u t) (clean_of g extra last)))
+      let left : suc u + extra ≡ suc (u + extra) = omega arith in (
+        ap (λ (n : ℕ). and_later (accesses_of g) n (accesses_now g s) e) left ∙ ap (λ (l : List Access). accesses_now g s ++ l) on.0 ∙ sym (append_assoc (accesses_now g s) (accesses_of g u t) (accesses_of g extra last)),
+        ap (λ (n : ℕ). and_clean (clean_of g) n (clean_now g s) e) left ∙ ap (λ (b : Bool). clean_now g s && b) on.1 ∙ sym (both_assoc (clean_now g s) (clean_of g u t) (clean_of g extra last)),
+      )
   more_after zero extra s last (Stops false e left) is fw ih h = absurd cc
   more_after (suc u) extra s last (Stops false e left) is fw ih h = absurd cc
   more_after zero extra s last (Stops true why left) is fw ih h =
       let same : s ≡ last = cc in
       let e : Event X = Stops true why left in
       let out = out_of_turns extra s last e is same in
-      let start : zero + extra ≡ extra = omega arith in
-      (ap (λ (n : ℕ). and_later (accesses_of g) n (accesses_now g s) e) start ∙ ap (and_later (accesses_of g) extra (accesses_now g s)) (sym is) ∙ sym (accesses_step g extra s) ∙ out.0,
-        ap (λ (n : ℕ). and_clean (clean_of g) n (clean_now g s) e) start ∙ out.1)
+      let start : zero + extra ≡ extra = omega arith in (
+        ap (λ (n : ℕ). and_later (accesses_of g) n (accesses_now g s) e) start ∙ ap (and_later (accesses_of g) extra (accesses_now g s)) (sym is) ∙ sym (accesses_step g extra s) ∙ out.0,
+        ap (λ (n : ℕ). and_clean (clean_of g) n (clean_now g s) e) start ∙ out.1,
+      )
   more_after (suc u) extra s last (Stops true e left) is fw ih h = absurd cc
 
   more_within : (n turns extra : ℕ) (s last : State X) → room turns s ≤ n → run_of g turns s ≡ Out last → Goes_on turns extra s last
   more_within zero turns extra s last l h = let p = some_room g turns s in absurd (omega arith)
   more_within (suc n) turns extra s last l h =
-      let on = more_after turns extra s last (event g s) refl (event_forward g s) (λ u t m. more_within n u extra t last (omega arith)) (sym (run_step g turns s) ∙ h) in
-      (accesses_step g (turns + extra) s ∙ on.0 ∙ ap (λ (l : List Access). l ++ accesses_of g extra last) (sym (accesses_step g turns s)),
-        clean_step g (turns + extra) s ∙ on.1 ∙ ap (λ (b : Bool). b && clean_of g extra last) (sym (clean_step g turns s)))
+      let on = more_after turns extra s last (event g s) refl (event_forward g s) (λ u t m. more_within n u extra t last (omega arith)) (sym (run_step g turns s) ∙ h) in (
+        accesses_step g (turns + extra) s ∙ on.0 ∙ ap (λ (l : List Access). l ++ accesses_of g extra last) (sym (accesses_step g turns s)),
+        clean_step g (turns + extra) s ∙ on.1 ∙ ap (λ (b : Bool). b && clean_of g extra last) (sym (clean_step g turns s)),
+      )
 
   -- a run that is out of turns and goes on with more
   pub final_more : (turns extra : ℕ) (s last : State X) (made : List Access) → run_of g turns s ≡ Out last
@@ -344,9 +349,10 @@ module _ {X : Type 0} (g : Ground X) where
   stop_after (suc u) extra s last why (Goes true t) fw ih h =
       let so = ih u t (room_falls_turn g u s t) h in
       let e : Event X = Goes true t in
-      let left : suc u + extra ≡ suc (u + extra) = omega arith in
-      (ap (λ (n : ℕ). and_later (accesses_of g) n (accesses_now g s) e) left ∙ ap (λ (l : List Access). accesses_now g s ++ l) so.0,
-        ap (λ (n : ℕ). and_clean (clean_of g) n (clean_now g s) e) left ∙ ap (λ (b : Bool). clean_now g s && b) so.1)
+      let left : suc u + extra ≡ suc (u + extra) = omega arith in (
+        ap (λ (n : ℕ). and_later (accesses_of g) n (accesses_now g s) e) left ∙ ap (λ (l : List Access). accesses_now g s ++ l) so.0,
+        ap (λ (n : ℕ). and_clean (clean_of g) n (clean_now g s) e) left ∙ ap (λ (b : Bool). clean_now g s && b) so.1,
+      )
   stop_after turns extra s last why (Stops b also left) fw ih h = (refl, refl)
 
   stop_within : (n turns extra : ℕ) (s last : State X) (why : Stop) → room turns s ≤ n → run_of g turns s ≡ Stopped why last → Stays_so turns extra s

@@ -30,7 +30,7 @@ DeedsLike x (Halts why s) (Halts also t) = (why ≡ also) × StatesLike x s t
 DeedsLike x _ _ = ⊥
 
 module _ (reads : List ℕ → Reading) (outers : ℕ) (preserve : Bool) (i : Instr) (next : ℕ) (ok : valid_of i ≡ true) (small : next < 2 ^ 64) (s t : State Stored) (x : Stored) (rip : s.processor.rip ≡ t.processor.rip) (guest : t.guest ≡ s.guest)
-  (clear : Clear (accesses i next t.processor.regs)) where
+    (clear : Clear (accesses i next t.processor.regs)) where
   abbrev G : Ground Stored
   G = stored_ground reads outers record { preserve = preserve; bare = false }
 
@@ -55,7 +55,7 @@ module _ (reads : List ℕ → Reading) (outers : ℕ) (preserve : Bool) (i : In
   touched_like a b y z e f None regs like words same left = (refl, left_like a b y z like same left words)
   touched_like a b y z e f (Some l) regs like words same left = ended_like b.regs _ _
       (row_like a b (with_store y (with_touched z.bounds l)) (with_store z (with_touched z.bounds l)) regs like words (record { unsealed = same.unsealed; bounds = refl })
-        (record { sealed = left.sealed; each_byte = left.each_byte; kept_words = left.kept_words }))
+      (record { sealed = left.sealed; each_byte = left.each_byte; kept_words = left.kept_words }))
 
   served_like : (o p : Outcome Stored Refusal) → Alike t.processor.regs x o p → DeedsLike x (served_or_ended G i next s o) (served_or_ended G i next t p)
   unfolding megabyte_touched

@@ -160,7 +160,7 @@ module _ (reads : List ℕ → Reading) (outers : ℕ) (preserve : Bool) (valid 
       let d = old.like.regs 2 (omega arith) in
       (λ i. served s.memory.bytes (bytes_judged false (rip_same i)) (service_of (a i)) (b i) (c i) (d i) (sym old.guest i))
       ∙ served_same (service_of (t.processor.regs rax)) s.memory.bytes t.memory.bytes (bytes_judged false t.processor.rip) (t.processor.regs rdi) (t.processor.regs rsi) (t.processor.regs rdx) t.guest
-        (λ none. bytes_same (t.processor.regs rsi) (t.processor.regs rdx) (old.words.regs_fit rsi) (old.words.regs_fit rdx) none)
+      (λ none. bytes_same (t.processor.regs rsi) (t.processor.regs rdx) (old.words.regs_fit rsi) (old.words.regs_fit rdx) none)
     where
       strayed_none : (o : Option ℕ) (p : Option Stop) → strayed_or o p ≡ None → (o ≡ None) × (p ≡ None)
       strayed_none None p h = (refl, h)
@@ -210,8 +210,8 @@ module _ (reads : List ℕ → Reading) (outers : ℕ) (preserve : Bool) (valid 
       let spans : accesses i next s.processor.regs ≡ accesses i next t.processor.regs = spans_same (row i next s.processor) (row i next t.processor) _ _ (rows_like s.processor t.processor next old.like i ok) (asks_row i next s.processor) (asks_row i next t.processor) in
       let strays : reach_strays i s.processor.rip (reach_of (accesses i next s.processor.regs)) ≡ reach_strays i t.processor.rip (reach_of (accesses i next t.processor.regs)) = λ j. reach_strays i (rip_same j) (reach_of (spans j)) in
       either _ _ _ _ strays (λ none.
-        let clear = open_clear i t.processor.rip legacy (accesses i next t.processor.regs) (few_accesses i next t.processor.regs ok old.words.regs_fit) none in
-        control_like i s.processor.rip t.processor.rip _ _ rip_same (service_like i _ _ (executed_like reads outers preserve i next ok small s t x rip_same old.guest clear old.like old.words old.same old.left)))
+      let clear = open_clear i t.processor.rip legacy (accesses i next t.processor.regs) (few_accesses i next t.processor.regs ok old.words.regs_fit) none in
+      control_like i s.processor.rip t.processor.rip _ _ rip_same (service_like i _ _ (executed_like reads outers preserve i next ok small s t x rip_same old.guest clear old.like old.words old.same old.left)))
     where
       either : (o p : Option ℕ) (d e : Deed Stored) → o ≡ p → (p ≡ None → DeedsLike x d e) → DeedsLike x (unless_strayed o s d) (unless_strayed p t e)
       either o p d e same h = subst (λ (q : Option ℕ). DeedsLike x (unless_strayed q s d) (unless_strayed p t e)) (sym same) (elim p as (λ q. p ≡ q → DeedsLike x (unless_strayed q s d) (unless_strayed q t e)) [ None ↦ h | Some y ↦ λ _. (refl, old) ] refl)
@@ -233,14 +233,14 @@ module _ (reads : List ℕ → Reading) (outers : ℕ) (preserve : Bool) (valid 
       let inside = executable_legacy t.processor.rip can legacy in
       let end = fetched_end t.processor.rip legacy inside in
       ap reads ((λ j. list_at (fetched_size (rip_same j)) s.memory.bytes (rip_same j))
-        ∙ sym (list_at-same (fetched_size t.processor.rip) t.memory.bytes s.memory.bytes t.processor.rip (λ y from to. old.same.unsealed y (legacy_unsealed y t.processor.rip inside from (omega arith)))))
+      ∙ sym (list_at-same (fetched_size t.processor.rip) t.memory.bytes s.memory.bytes t.processor.rip (λ y from to. old.same.unsealed y (legacy_unsealed y t.processor.rip inside from (omega arith)))))
 
   pub event_like : EventsLike x (event G s) (event G t)
   unfolding event reading_at
   event_like = subst (λ (b : Bool). EventsLike x (cond b (event_by G s (reading_at G s)) (event_of s false (Halts (stop.Unmapped s.processor.rip) s))) (event G t)) (λ j. is_executable (sym rip_same j))
       (elim (is_executable t.processor.rip) as (λ b. is_executable t.processor.rip ≡ b → EventsLike x (cond b (event_by G s (reading_at G s)) (event_of s false (Halts (stop.Unmapped s.processor.rip) s)))
-          (cond b (event_by G t (reading_at G t)) (event_of t false (Halts (stop.Unmapped t.processor.rip) t)))) [
+      (cond b (event_by G t (reading_at G t)) (event_of t false (Halts (stop.Unmapped t.processor.rip) t)))) [
         | true ↦ λ can. subst (λ (r : Reading). EventsLike x (event_by G s r) (event_by G t (reading_at G t))) (sym (reading_same can))
-          (event_of_like (owes (reading_at G t)) _ _ (deed_by_like (reading_at G t) (λ i size is. valid _ i size (bytes-list_at (fetched_size t.processor.rip) t.memory.bytes t.processor.rip old.left.each_byte) is)))
+            (event_of_like (owes (reading_at G t)) _ _ (deed_by_like (reading_at G t) (λ i size is. valid _ i size (bytes-list_at (fetched_size t.processor.rip) t.memory.bytes t.processor.rip old.left.each_byte) is)))
         | false ↦ λ can. event_of_like false (Halts (stop.Unmapped s.processor.rip) s) (Halts (stop.Unmapped t.processor.rip) t) ((λ j. stop.Unmapped (rip_same j)), old)
       ] refl)

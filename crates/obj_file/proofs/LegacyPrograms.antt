@@ -49,25 +49,35 @@ same_part w r v f g x e h = λ i. cond (nat_eq x r) (part_written w (e i) v) (h 
 pub like_result : (c d : Processor) (w r v u : ℕ) → r < 16 → v ≡ u → Like c d → Like (with_result c w r v) (with_result d w r u)
 like_result c d w r v u few e h = record {
   regs = λ x less. same_part w r v c.regs d.regs x (h.regs r few) (h.regs x less) ∙ ap (λ (n : ℕ). with_part w d.regs r n x) e;
-  flags = h.flags; rip = h.rip; bounds = h.bounds; preserve = h.preserve;
+  flags = h.flags;
+  rip = h.rip;
+  bounds = h.bounds;
+  preserve = h.preserve;
 }
 
 like_stack : (c d : Processor) (a b : ℕ) → a ≡ b → Like c d → Like (with_stack c a) (with_stack d b)
 like_stack c d a b e h = record {
   regs = λ x less. λ i. cond (nat_eq x 4) (e i) (h.regs x less i);
-  flags = h.flags; rip = h.rip; bounds = h.bounds; preserve = h.preserve;
+  flags = h.flags;
+  rip = h.rip;
+  bounds = h.bounds;
+  preserve = h.preserve;
 }
 
 like_bnd : (c d : Processor) (b : ℕ) (x z : Bounds) → x ≡ z → Like c d → Like (with_bnd c b x) (with_bnd d b z)
 like_bnd c d b x z e h = record {
-  regs = h.regs; flags = h.flags; rip = h.rip;
+  regs = h.regs;
+  flags = h.flags;
+  rip = h.rip;
   bounds = λ k less. λ i. cond (nat_eq k b) (e i) (h.bounds k less i);
   preserve = h.preserve;
 }
 
 like_branch : (c d : Processor) (prefixed : Bool) (a b : ℕ) → a ≡ b → Like c d → Like (branched c prefixed a) (branched d prefixed b)
 like_branch c d prefixed a b e h = record {
-  regs = h.regs; flags = h.flags; rip = e;
+  regs = h.regs;
+  flags = h.flags;
+  rip = e;
   bounds = λ k less. (λ i. (cond (prefixed || h.preserve i) c.bounds init_bounds) k) ∙ widened (prefixed || d.preserve) k (h.bounds k less);
   preserve = h.preserve;
 }
@@ -120,7 +130,7 @@ module _ (c d : Processor) (next : ℕ) (h : Like c d) where
       let flags : flags_after op w a b c.flags ≡ flags_after op w a e d.flags = λ i. flags_after op w a (same i) (h.flags i) in
       let after = like_flags (at_next c next) (at_next d next) _ _ flags (like_rip c d next h) in
       elim (writes_result op) as (λ x. LikeProgram (cond x (written_to c next w rm (result_of op w a b) (with_flags_after c next op w a b)) (Ends (with_flags_after c next op w a b)))
-          (cond x (written_to d next w rm (result_of op w a e) (with_flags_after d next op w a e)) (Ends (with_flags_after d next op w a e)))) [
+      (cond x (written_to d next w rm (result_of op w a e) (with_flags_after d next op w a e)) (Ends (with_flags_after d next op w a e)))) [
         | true ↦ written_like w rm _ _ _ _ ok (ap (result_of op w a) same) after
         | false ↦ after
       ]
@@ -168,6 +178,7 @@ module _ (c d : Processor) (next : ℕ) (h : Like c d) where
 
   last_of : (x y : Bool) → (x && y) ≡ true → y ≡ true
   last_of x y e = (and_parts x y e).1
+
   front_of : (x y : Bool) → (x && y) ≡ true → x ≡ true
   front_of x y e = (and_parts x y e).0
 
@@ -189,8 +200,13 @@ module _ (c d : Processor) (next : ℕ) (h : Like c d) where
   rows_like (Movzx from r rm) ok = value_like from rm _ _ (last_of _ _ ok) (λ v. like_result _ _ 32 r.0 _ _ (reg_few r (last_of _ _ (front_of _ _ ok))) refl at_rip)
   rows_like (Lea r m) ok = like_result _ _ 64 r.0 _ _ (reg_few r (front_of _ _ ok)) (same_address m (last_of _ _ ok)) at_rip
   rows_like (AluTo op w r rm) ok = value_like w rm _ _ (last_of _ _ ok) (λ a. operated_like (alu_operation op) w rm a _ _ (last_of _ _ ok) (same_value w r.0 (reg_few r (last_of _ _ (front_of _ _ ok)))))
-  rows_like (AluFrom op w r m) ok = (same_address m (last_of _ _ ok), refl, refl, λ v. subst (λ (a : ℕ). LikeProgram (operated c next (alu_operation op) w (InReg r) (reg_value c w r.0) (low w v)) (operated d next (alu_operation op) w (InReg r) a (low w v)))
-      (same_value w r.0 (reg_few r (last_of _ _ (front_of _ _ ok)))) (operated_like (alu_operation op) w (InReg r) (reg_value c w r.0) _ _ (last_of _ _ (front_of _ _ ok)) refl))
+  rows_like (AluFrom op w r m) ok = (
+    same_address m (last_of _ _ ok),
+    refl,
+    refl,
+    λ v. subst (λ (a : ℕ). LikeProgram (operated c next (alu_operation op) w (InReg r) (reg_value c w r.0) (low w v)) (operated d next (alu_operation op) w (InReg r) a (low w v)))
+        (same_value w r.0 (reg_few r (last_of _ _ (front_of _ _ ok)))) (operated_like (alu_operation op) w (InReg r) (reg_value c w r.0) _ _ (last_of _ _ (front_of _ _ ok)) refl),
+  )
   rows_like (AluImm op w rm imm) ok = value_like w rm _ _ (last_of _ _ (front_of _ _ ok)) (λ a. operated_like (alu_operation op) w rm a _ _ (last_of _ _ (front_of _ _ ok)) refl)
   rows_like (TestRm w r rm) ok = value_like w rm _ _ (last_of _ _ ok) (λ a. operated_like Test w rm a _ _ (last_of _ _ ok) (same_value w r.0 (reg_few r (last_of _ _ (front_of _ _ ok)))))
   rows_like (ImulRm w r rm) ok = value_like w rm _ _ (last_of _ _ ok) (λ v. subst (λ (a : ℕ). LikeProgram (operated c next Imul w (InReg r) (reg_value c w r.0) v) (operated d next Imul w (InReg r) a v))

@@ -126,7 +126,7 @@ module _ (cfg : ℕ) (c d : Processor) (like : Like c d) (words : HoldsWords d) 
       let later : first_refused is_readable size' at' ≡ None → Clear rest = subst (λ (t : Span). first_refused is_readable t.size t.at ≡ None → Clear rest) asks.0 clear.1 in
       subst (λ (a : ℕ). Goal (Reads a size im f) (Reads at' size' im' g) y z) (sym l.0) (subst (λ (n : ℕ). Goal (Reads at' n im f) (Reads at' size' im' g) y z) (sym l.1)
       (after_read y z (first_refused is_readable size' at') _ _ f g (number_same y z at' size' same there) same sealed
-        (λ n none. runs_blind (f n) (g n) rest y z (l.3 n) (fits n) (asks.1 n) (later none) same sealed)))
+      (λ n none. runs_blind (f n) (g n) rest y z (l.3 n) (fits n) (asks.1 n) (later none) same sealed)))
   runs_blind (Writes at size v im p) (Writes at' size' v' im' q) [] y z l fits asks clear same sealed = absurd asks
   runs_blind (Writes at size v im p) (Writes at' size' v' im' q) (s ∷ rest) y z l fits asks clear same sealed =
       let there : IsOpen (write_span at' size' false) = subst (λ (t : Span). IsOpen t) asks.0 clear.0 in
@@ -134,17 +134,17 @@ module _ (cfg : ℕ) (c d : Processor) (like : Like c d) (words : HoldsWords d) 
       subst (λ (a : ℕ). Goal (Writes a size v im p) (Writes at' size' v' im' q) y z) (sym l.0) (subst (λ (n : ℕ). Goal (Writes at' n v im p) (Writes at' size' v' im' q) y z) (sym l.1)
       (subst (λ (n : ℕ). Goal (Writes at' size' n im p) (Writes at' size' v' im' q) y z) (sym l.2)
       (after_write y z _ _ (first_refused is_writable size' at') p q same sealed
-        (λ none. runs_blind p q rest _ _ l.4 fits asks.1 (later (read_where_written size' at' none)) (written_same y z at' size' v' same) (written_sealed z at' size' v' there none sealed)))))
+      (λ none. runs_blind p q rest _ _ l.4 fits asks.1 (later (read_where_written size' at' none)) (written_same y z at' size' v' same) (written_sealed z at' size' v' there none sealed)))))
   runs_blind (Loads at v f) (Loads at' v' g) spans y z l fits asks clear same sealed =
       subst (λ (a : ℕ). Goal (Loads a v f) (Loads at' v' g) y z) (sym l.0) (subst (λ (n : ℕ). Goal (Loads at' n f) (Loads at' v' g) y z) (sym l.1)
       (subst (λ (s : BoundsStore). Goal (Loads at' v' f) (Loads at' v' g) (record { bytes = y.bytes; bounds = s }) z) same.bounds
       (untouched_alike z.bounds at' _ _ (λ a b. Alike d.regs x (either_way a (λ t. Run c (f t.0) t.1) (λ e. Refused e (refused_with (status_after e c.status) c) (record { bytes = y.bytes; bounds = z.bounds }))) (either_way b (λ t. Run d (g t.0) t.1) (λ e. Refused e (refused_with (status_after e d.status) d) z)))
-        (runs_blind (f _) (g _) spans (record { bytes = y.bytes; bounds = z.bounds }) z (l.2 _) (fits _ (loaded_words v' _ (sealed.kept_words (granule at')))) (asks _) clear (record { unsealed = same.unsealed; bounds = refl }) sealed)
-        (λ e. refused_alike e e (record { bytes = y.bytes; bounds = z.bounds }) z refl (record { unsealed = same.unsealed; bounds = refl }) sealed))))
+      (runs_blind (f _) (g _) spans (record { bytes = y.bytes; bounds = z.bounds }) z (l.2 _) (fits _ (loaded_words v' _ (sealed.kept_words (granule at')))) (asks _) clear (record { unsealed = same.unsealed; bounds = refl }) sealed)
+      (λ e. refused_alike e e (record { bytes = y.bytes; bounds = z.bounds }) z refl (record { unsealed = same.unsealed; bounds = refl }) sealed))))
   runs_blind (Keeps at v b p) (Keeps at' v' b' q) spans y z l fits asks clear same sealed =
       subst (λ (a : ℕ). Goal (Keeps a v b p) (Keeps at' v' b' q) y z) (sym l.0) (subst (λ (n : ℕ). Goal (Keeps at' n b p) (Keeps at' v' b' q) y z) (sym l.1) (subst (λ (n : Bounds). Goal (Keeps at' v' n p) (Keeps at' v' b' q) y z) (sym l.2)
       (subst (λ (s : BoundsStore). Goal (Keeps at' v' b' p) (Keeps at' v' b' q) (record { bytes = y.bytes; bounds = s }) z) same.bounds
       (untouched_alike z.bounds at' _ _ (λ a t. Alike d.regs x (either_way a (λ n. Run c p n) (λ e. Refused e (refused_with (status_after e c.status) c) (record { bytes = y.bytes; bounds = z.bounds }))) (either_way t (λ n. Run d q n) (λ e. Refused e (refused_with (status_after e d.status) d) z)))
-        (runs_blind p q spans _ _ l.3 fits.2 asks clear (record { unsealed = same.unsealed; bounds = refl }) (kept_left z at' v' b' fits.0 fits.1 sealed))
-        (λ e. refused_alike e e (record { bytes = y.bytes; bounds = z.bounds }) z refl (record { unsealed = same.unsealed; bounds = refl }) sealed)))))
+      (runs_blind p q spans _ _ l.3 fits.2 asks clear (record { unsealed = same.unsealed; bounds = refl }) (kept_left z at' v' b' fits.0 fits.1 sealed))
+      (λ e. refused_alike e e (record { bytes = y.bytes; bounds = z.bounds }) z refl (record { unsealed = same.unsealed; bounds = refl }) sealed)))))
   runs_blind p q spans y z l fits asks clear same sealed = absurd l

@@ -11,6 +11,7 @@ pub mod EventsAlone
 pub mod EventsKeep
 pub mod CodeStays
 pub mod Readers
+pub mod StoreOfC
 pub mod LegacyPrograms
 pub mod LegacyRows
 pub mod LegacyDeeds

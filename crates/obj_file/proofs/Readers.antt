@@ -90,8 +90,8 @@ module _ {X : Type 0} (g : Ground X) (other : List ℕ → Reading) (exact : IsR
   unfolding accesses_within
   accesses_same zero turns s bytes = refl
   accesses_same (suc n) turns s bytes = later_same (accesses_within g n) (accesses_within H n) turns (c_accesses_by s (reading_at g s)) (event g s) (accesses_same n) (stays s bytes)
-    ∙ ap (λ (r : Reading). and_later (accesses_within H n) turns (c_accesses_by s r) (event g s)) (reads_same s bytes)
-    ∙ ap (and_later (accesses_within H n) turns (c_accesses_by s (reading_at H s))) (event_same s bytes)
+      ∙ ap (λ (r : Reading). and_later (accesses_within H n) turns (c_accesses_by s r) (event g s)) (reads_same s bytes)
+      ∙ ap (and_later (accesses_within H n) turns (c_accesses_by s (reading_at H s))) (event_same s bytes)
 
   pub accesses_same_of : (turns : ℕ) (s : State X) → AreBytes (g.bytes s.memory) → accesses_of g turns s ≡ accesses_of (read_by g other) turns s
   unfolding accesses_of
@@ -127,8 +127,13 @@ module _ (reads : List ℕ → Reading) (outers : ℕ) (mode : Mode) where
 
   pub stored_bytes_stay : (s : State Stored) → AreBytes s.memory.bytes → EventLeaves (λ t. AreBytes t.memory.bytes) (event (stored_ground reads outers mode) s)
   stored_bytes_stay s h = first (event GS s) (event_keeps GS (λ x y. AreBytes x.bytes → AreBytes y.bytes) (record {
-        same = λ x k. k; join = λ x y z k l m. l (k m); write = stored_write_bytes; load = stored_load_bytes; keep = stored_keep_bytes; serve = λ x y entry_at lacks e. stored_serve_bytes x y entry_at e;
-      }) (λ a b. Unit {0}) (no_guest GS) s)
+    same = λ x k. k;
+    join = λ x y z k l m. l (k m);
+    write = stored_write_bytes;
+    load = stored_load_bytes;
+    keep = stored_keep_bytes;
+    serve = λ x y entry_at lacks e. stored_serve_bytes x y entry_at e;
+  }) (λ a b. Unit {0}) (no_guest GS) s)
     where
       first : (e : Event Stored) → EventLeaves (λ t. (AreBytes s.memory.bytes → AreBytes t.memory.bytes) × Unit {0}) e → EventLeaves (λ t. AreBytes t.memory.bytes) e
       first (Goes turn t) k = k.0 h
@@ -171,8 +176,13 @@ module _ (reads : List ℕ → Reading) (outers : ℕ) (mode : Mode) where
 
   pub tabled_bytes_stay : (s : State Tabled) → AreBytes s.memory.bytes → EventLeaves (λ t. AreBytes t.memory.bytes) (event (ground_of reads outers mode) s)
   tabled_bytes_stay s h = first (event GT s) (event_keeps GT (λ x y. AreBytes x.bytes → AreBytes y.bytes) (record {
-        same = λ x k. k; join = λ x y z k l m. l (k m); write = tabled_write_bytes; load = tabled_load_bytes; keep = tabled_keep_bytes; serve = λ x y entry_at lacks e. tabled_serve_bytes x y entry_at e;
-      }) (λ a b. Unit {0}) (no_guest GT) s)
+    same = λ x k. k;
+    join = λ x y z k l m. l (k m);
+    write = tabled_write_bytes;
+    load = tabled_load_bytes;
+    keep = tabled_keep_bytes;
+    serve = λ x y entry_at lacks e. tabled_serve_bytes x y entry_at e;
+  }) (λ a b. Unit {0}) (no_guest GT) s)
     where
       first : (e : Event Tabled) → EventLeaves (λ t. (AreBytes s.memory.bytes → AreBytes t.memory.bytes) × Unit {0}) e → EventLeaves (λ t. AreBytes t.memory.bytes) e
       first (Goes turn t) k = k.0 h
@@ -208,7 +218,7 @@ module _ {X : Type 0} (g : Ground X) (exact : IsReader g.reads) (s : State X) (b
       let enough : size ≤ fetched_size at = omega (arith, long, count, most) in
       let all : size ≤ length fetched = let n = length-list_at (fetched_size at) (g.bytes s.memory) at in omega (arith, n, enough) in
       (exact.whole fetched i size (bytes-list_at (fetched_size at) (g.bytes s.memory) at bytes)).1
-        (all, subst (λ (l : List ℕ). Spells l i) (sym (take-list_at (fetched_size at) size (g.bytes s.memory) at enough)) h)
+      (all, subst (λ (l : List ℕ). Spells l i) (sym (take-list_at (fetched_size at) size (g.bytes s.memory) at enough)) h)
 
   pub read_spelled : is_executable at ≡ true → (i : Instr) (size : ℕ) → reading_at g s ≡ Is i size → (at + size ≤ code_end at) × Spells (list_at size (g.bytes s.memory) at) i
   unfolding reading_at

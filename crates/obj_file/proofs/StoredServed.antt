@@ -20,7 +20,7 @@ touched_old : (s : BoundsStore) (m : ℕ) → is_touched s m ≡ true → touche
 unfolding touched_with is_touched
 touched_old s m some = rw some refl
 
-touched_after : (s : BoundsStore) (m : ℕ) → is_touched (with_touched s (s.touched ++ m ∷ [])) m ≡ true
+pub touched_after : (s : BoundsStore) (m : ℕ) → is_touched (with_touched s (s.touched ++ m ∷ [])) m ≡ true
 touched_after s m = placed_touched (with_touched s (s.touched ++ m ∷ [])) m (length s.touched) (simp length-append (omega arith)) (place_last s.touched m)
 
 module _ {A : Type 0} (preserve : Bool) (y : Stored) (la : ℕ) (near : la < walk_end) (answer : Stored → A) where

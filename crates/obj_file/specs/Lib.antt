@@ -16,5 +16,6 @@ pub mod Beside
 pub mod Keeping
 pub mod CodeStays
 pub mod Readers
+pub mod StoreOfC
 pub mod LegacyEvents
 pub mod ExamplesOfStore

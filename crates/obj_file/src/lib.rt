@@ -46,9 +46,9 @@ pub use run_laws::{
     stopped_finals_stay_so, stopped_runs_stay_so,
 };
 pub use store_laws::{
-    a_small_image_runs_alike, either_run_stays_out, events_go_alike,
-    exact_readers_read_valid_instructions, images_begin_alike, images_run_alike,
-    kept_bounds_stand_in_their_entries, loads_and_keeps_are_the_store,
-    runs_differ_where_code_writes_the_directory, runs_end_alike, runs_make_the_same_accesses,
-    watched_accesses_stay_out,
+    a_small_image_runs_alike, bndldx_gives_kept_bounds_where_values_match, either_run_stays_out,
+    events_go_alike, events_load_and_keep_in_words_of_c, exact_readers_read_valid_instructions,
+    images_begin_alike, images_run_alike, kept_bounds_stand_in_their_entries,
+    loads_and_keeps_are_the_store, runs_differ_where_code_writes_the_directory, runs_end_alike,
+    runs_make_the_same_accesses, watched_accesses_stay_out,
 };

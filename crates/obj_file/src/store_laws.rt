@@ -1,20 +1,24 @@
 //! Laws of a run whose bounds stand in the directory and the tables, beside the same run over the store of bounds.
 
-ghost use Rattle.std.specs.Prelude.{◌≡◌, ◌↔◌, ℕ, ◌<◌, ◌≤◌, Bool, false, true, Some, List, [], Err};
+ghost use Rattle.std.specs.Prelude.{◌≡◌, ◌≢◌, ◌↔◌, ℕ, ◌<◌, ◌≤◌, Bool, false, true, None, Some, List, [], Err};
 ghost use Rattle.std.specs.Option.{option_map};
 ghost use Rattle.mx_base.specs.declared.limits.Bounds.{Bounds as BoundsPair};
 ghost use Rattle.mx_base.specs.Bounds.{full_bounds};
 ghost use Rattle.mx_base.specs.BoundsStore.{Kept, granule, load_bounds, keep_bounds};
 ghost use Rattle.mx_base.specs.Walk.{Stands, walk, walk_end, entry_in, entry_for};
 ghost use Rattle.x86_forms.specs.declared.instr.Instr.{Instr};
+ghost use Rattle.x86_forms.specs.declared.instr.Instr.TheVariants.{Bndldx};
+ghost use Rattle.x86_forms.specs.declared.instr.Mem.{Mem};
+ghost use Rattle.x86_forms.specs.Processor.{pointer_address, index_register};
 ghost use Rattle.x86_forms.specs.declared.spans.Span.{Span};
 ghost use Rattle.x86_forms.specs.Watch.{is_legacy, is_watched};
 ghost use Rattle.obj_file.specs.declared.image.Image.{Image};
 ghost use Rattle.obj_file.specs.Image.{IsImage};
-ghost use Rattle.obj_file.specs.Machine.{Reading, IsReader, Misses, Ground, State, event};
+ghost use Rattle.obj_file.specs.Machine.{Reading, IsReader, Misses, Ground, State, Does, executed, event};
 ghost use Rattle.obj_file.specs.Runs.{run_within, run_of, accesses_of};
 ghost use Rattle.obj_file.specs.Loaded.{Tabled, Mode, configuration, ground_of, state_at_start, image_run, image_accesses};
 ghost use Rattle.obj_file.specs.Stored.{Stored, with_store, stored_load, stored_keep, with_serving, stored_ground, stored_at_start, stored_run, stored_accesses};
+ghost use Rattle.obj_file.specs.StoreOfC.{ground_in_c, event_but_status};
 ghost use Rattle.obj_file.specs.ExamplesOfStore.{example_code, example_image, example_mode, reader_of, rewriting_code, rewriting_bytes, image_with, loaded_at_stop, walk_seen, store_seen, seen_over_walk, seen_over_store};
 ghost use Rattle.obj_file.specs.StoreLaw.{StandsIn, StatesAlike, EventsAlike, EndsAlike, ReadsValid, HaveBytes, StaysOut, EventStaysOut, StaysOutWithin, RunStaysOut};
 
@@ -30,6 +34,23 @@ pub fn loads_and_keeps_are_the_store()
         ≡ option_map (with_store y) (keep_bounds y.bounds la value b) }
     ensures no_loads { (cfg : ℕ) (y : Stored) (la value : ℕ) → walk_end ≤ la → stored_load cfg y la value ≡ Err (Misses la) }
     ensures no_keeps { (cfg : ℕ) (y : Stored) (la value : ℕ) (b : BoundsPair) → walk_end ≤ la → stored_keep cfg y la value b ≡ Err (Misses la) }
+{}
+
+/// The law that an event over the store of bounds, with the serving that it makes, is the event in C's words, in which a load
+/// is `load_bounds` and a keep is `keep_bounds`: BNDSTATUS aside, which the serving sets.
+pub fn events_load_and_keep_in_words_of_c()
+    ensures { (reads : List ℕ → Reading) (outers : ℕ) (mode : Mode) (s : State Stored) → event_but_status (event (stored_ground reads outers mode) s) ≡ event_but_status (event (ground_in_c reads outers mode) s) }
+{}
+
+/// The law that a BNDLDX which is done gives the bounds that are kept for its address exactly where they are kept for the
+/// value of its index register, and else INIT.
+pub fn bndldx_gives_kept_bounds_where_values_match()
+    ensures matches { (reads : List ℕ → Reading) (outers : ℕ) (mode : Mode) (s t : State Stored) (b : ℕ) (m : Mem) (next : ℕ) (k : Kept) → executed (stored_ground reads outers mode) (Bndldx b m) next s ≡ Does t
+        → s.memory.bounds.kept (granule (pointer_address s.processor.regs next m)) ≡ Some k → k.value ≡ index_register s.processor.regs m.index → t.processor.bounds b ≡ k.bounds }
+    ensures differs { (reads : List ℕ → Reading) (outers : ℕ) (mode : Mode) (s t : State Stored) (b : ℕ) (m : Mem) (next : ℕ) (k : Kept) → executed (stored_ground reads outers mode) (Bndldx b m) next s ≡ Does t
+        → s.memory.bounds.kept (granule (pointer_address s.processor.regs next m)) ≡ Some k → k.value ≢ index_register s.processor.regs m.index → t.processor.bounds b ≡ full_bounds }
+    ensures none { (reads : List ℕ → Reading) (outers : ℕ) (mode : Mode) (s t : State Stored) (b : ℕ) (m : Mem) (next : ℕ) → executed (stored_ground reads outers mode) (Bndldx b m) next s ≡ Does t
+        → s.memory.bounds.kept (granule (pointer_address s.processor.regs next m)) ≡ None → t.processor.bounds b ≡ full_bounds }
 {}
 
 /// The law that what the store keeps for an address stands in the table entry to which the walk leads, wherever a memory
