@@ -43,13 +43,7 @@ pub chunk_fits : (facts : FileFacts) (at k : ℕ) (o : Option ℕ) (buf : List �
 chunk_fits facts at k o buf is h = (answered facts facts at k o buf refl is h).0
 
 -- enough of a file
-pub front_cut : (most : ℕ) (facts : FileFacts) (bytes : List ℕ) → 0 < most → IsReadFrom facts bytes → most ≤ length bytes → IsFrontOf most facts (take most bytes)
-front_cut most Untold bytes some r le = omega (arith, length-take most bytes)
-front_cut most Absent bytes some r le = absurd (omega (arith, ap length r))
-front_cut most (Holds held) bytes some r le =
-    let more : length bytes ≡ most + (length bytes - most) = omega arith in
-    let cut : bytes ≡ take (most + (length bytes - most)) held = subst (λ (n : ℕ). bytes ≡ take n held) more r in
-    let long : length bytes ≡ min (length bytes) (length held) = ap length r ∙ length-take (length bytes) held in
-    let front : length (take most held) ≡ most = length-take-le most held (omega arith) in
-    ap (λ (t : List ℕ). take most t) (cut ∙ take-add most (length bytes - most) held)
-    ∙ (take-append-le most (take most held) _ (omega arith) ∙ take_all most (take most held) (omega arith))
+pub front_full : (most : ℕ) (facts : FileFacts) (bytes : List ℕ) → 0 < most → IsReadFrom facts bytes → length bytes ≡ most → IsFrontOf most facts bytes
+front_full most Untold bytes some r full = omega arith
+front_full most Absent bytes some r full = absurd (omega (arith, ap length r))
+front_full most (Holds held) bytes some r full = subst (λ (n : ℕ). bytes ≡ take n held) full r

@@ -2,7 +2,7 @@ use Rattle.std.proofs.Common.{arith, ◌≡◌, ◌∙◌, ◌++◌, ℕ, List, 
 use Rattle.std.proofs.lemmas.Grind.{common_steps}
 use Rattle.std.proofs.lemmas.List.{length-take-le, length-append}
 use Rattle.mpx_words.specs.Sources.{IsReadFrom}
-use Rattle.mpx_words.proofs.Fronts.{front_ended, front_more, front_cut, chunk_fits}
+use Rattle.mpx_words.proofs.Fronts.{front_ended, front_more, front_full, chunk_fits}
 use Rattle.mpx_words.proofs.source_file.read_front.Goals as goal
 
 pub returns-in-Ok-Some-eq0-clause-bytes : goal.returns-in-Ok-Some-eq0-clause-bytes
@@ -26,4 +26,4 @@ loop-chunk-preserved g c =
 
 pub returns-clause-bytes : goal.returns-clause-bytes
 returns-clause-bytes g c =
-    rw c.truncate.ensures.items (front_cut c.args.most _ _ (omega arith) c.loop-chunk.invariant.front (omega (arith, c.loop-chunk.bytes.ok)))
+    front_full c.args.most _ _ (omega arith) c.loop-chunk.invariant.front (omega (arith, c.loop-chunk.bytes.ok))

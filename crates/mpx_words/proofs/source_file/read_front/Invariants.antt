@@ -1,4 +1,4 @@
-use Rattle.std.proofs.Common.{◌≡◌, ℕ, List, ◌+◌, ◌-◌, ◌<◌, vec_len}
+use Rattle.std.proofs.Common.{◌≡◌, ℕ, List, ◌-◌, ◌≤◌, vec_len}
 use Rattle.mpx_words.specs.Sources.{IsReadFrom}
 use Rattle.mpx_words.proofs.source_file.read_front.Given as goal
 
@@ -8,8 +8,8 @@ invariant-loop-chunk g l = record {
   contents : (n : List ℕ) → g.F.Files.contents l.files n ≡ g.F.Files.contents l.initial.files n;
   reads : g.F.Files.read_faults l.files ≡ g.F.Files.read_faults l.initial.files;
   writes : g.F.Files.write_faults l.files ≡ g.F.Files.write_faults l.initial.files;
-  few : vec_len l.bytes < l.most + 4096;
+  few : vec_len l.bytes ≤ l.most;
 }
 
 abbrev pub decreases-loop-chunk : goal.decreases-loop-chunk
-decreases-loop-chunk g l = l.most + 4096 - vec_len l.bytes
+decreases-loop-chunk g l = l.most - vec_len l.bytes
