@@ -1,7 +1,7 @@
 -- Reading a file in chunks.
-use Rattle.std.proofs.Common.{◌≡◌, ℕ, ◌+◌, ◌-◌, ◌<◌, ◌≤◌, Option, Some, Ok, List, [], ◌++◌, length, take, drop, refl, sym, ap, ◌∙◌, subst, arith, min}
+use Rattle.std.proofs.Common.{◌≡◌, ℕ, ◌+◌, ◌<◌, ◌≤◌, Option, Some, Ok, List, [], ◌++◌, length, take, drop, refl, sym, ap, ◌∙◌, subst, arith}
 use Rattle.std.proofs.Math.Seq.{take-add}
-use Rattle.std.proofs.lemmas.List.{take_all, length-take, length-take-le, length-append, length-drop, take-append-le}
+use Rattle.std.proofs.lemmas.List.{take_all, length-take-le, length-append, length-drop}
 use Rattle.mx_base.specs.declared.externals.Failed.{Failed}
 use Rattle.mx_base.specs.Outside.{FileFacts, Untold, Absent, Holds, Reads}
 use Rattle.mpx_words.specs.Sources.{IsReadFrom, IsFrontOf}
