@@ -1,6 +1,6 @@
-//! Tests of the parts of the machine: instructions and their bytes (`x86_decode`, `x86_encode`), what they do (`x86_alu`, `x86_core`,
-//! `mpx_core`), tables and their entries (`bound_tables`, `br_runtime`) and the watch (`seal_watch`). They stand apart, since a crate
-//! with tests is proved twice.
+//! Tests of the parts of the machine: arithmetic (`x86_alu`), single MPX instructions (`mpx_core`), code of the first path (`x86_core`),
+//! tables and their entries (`bound_tables`, `br_runtime`) and the watch (`seal_watch`). They stand apart, since a crate with tests is
+//! proved twice. Instructions and their bytes, objects, images and runs are rows of `machine_rows`.
 #![tactic(auto)]
 
 #[cfg(test)]
@@ -8,17 +8,9 @@ mod arithmetic;
 #[cfg(test)]
 mod bounds;
 #[cfg(test)]
-mod decoding;
-#[cfg(test)]
 mod early_code;
 #[cfg(test)]
-mod encoding;
-#[cfg(test)]
 mod entries;
-#[cfg(test)]
-mod processor;
-#[cfg(test)]
-mod reading;
 #[cfg(test)]
 mod serving;
 #[cfg(test)]

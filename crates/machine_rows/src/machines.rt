@@ -1,10 +1,9 @@
 //! What a machine shows, as words.
 
-use crate::assembler::number;
+use crate::digits::number;
 use mx_base::{MemSink, MemSource, Stop};
 use mx_run::Machine;
-use std::alloc::Global;
-use std::test::Fail;
+use std::alloc::{AllocError, Global};
 
 /// A machine, its input and its output.
 #[derive(Drop)]
@@ -53,7 +52,7 @@ fn frames(name: &'static str, in_use: u32, capacity: u32) -> Words {
 }
 
 /// The words with colons between them.
-fn joined(alloc: Global, words: Words) -> Result<String, Fail> {
+fn joined(alloc: Global, words: Words) -> Result<String, AllocError> {
     let mut text = String::from_str(alloc, words.name)?;
     for n in words.numbers.iter().take(words.count) {
         text.push_str(format!(in alloc; ":{n:x}")?.as_str())?;
@@ -87,27 +86,41 @@ fn value(m: &Machine, name: &str, n: u64) -> Option<u64> {
 }
 
 /// What a machine shows under a name, or after a run.
-fn shown(alloc: Global, ran: &mut Ran, name: &str, n: u64) -> Result<String, Fail> {
+fn shown(alloc: Global, ran: &mut Ran, name: &str, n: u64) -> Result<String, AllocError> {
     match name {
         "run" => joined(
             alloc,
             stop_words(ran.machine.run(n, &mut ran.input, &mut ran.out)),
         ),
-        "out" => Ok(str::from_utf8(ran.out.held())?.replace(alloc, "\n", "/")?),
+        "out" => {
+            let text = str::from_utf8(ran.out.held()).unwrap_or("no text");
+            text.replace(alloc, "\n", "/")
+        }
         _ => match value(&ran.machine, name, n) {
-            Some(value) => Ok(format!(in alloc; "{value:x}")?),
-            None => Ok(String::from_str(alloc, "none")?),
+            Some(value) => format!(in alloc; "{value:x}"),
+            None => String::from_str(alloc, "none"),
         },
     }
 }
 
-/// What a machine shows under a name with its number, or how it was refused.
-pub fn told(alloc: Global, ran: &mut Result<Ran, (u32, u32)>, name: &str) -> Result<String, Fail> {
-    match ran {
-        Err((in_use, capacity)) => joined(alloc, frames("refused", *in_use, *capacity)),
-        Ok(ran) => match name.split_once(":") {
-            Some((name, n)) => shown(alloc, ran, name, number(n)?),
-            None => shown(alloc, ran, name, 0),
-        },
+/// What a machine shows under a name with its number.
+pub fn told(alloc: Global, ran: &mut Ran, name: &str) -> Result<String, AllocError> {
+    match name.split_once(':') {
+        Some((name, n)) => shown(alloc, ran, name, number(n)),
+        None => shown(alloc, ran, name, 0),
     }
+}
+
+/// The answers, with blanks between them, under each name of what is wanted.
+pub fn told_of_all(alloc: Global, ran: &mut Ran, wanted: &str) -> Result<String, AllocError> {
+    let mut text = String::new(alloc);
+    for answer in wanted.split_whitespace() {
+        let (name, _) = answer.split_once('=').unwrap_or((answer, ""));
+        let found = told(alloc, ran, name)?;
+        if !text.is_empty() {
+            text.push(' ')?;
+        }
+        text.push_str(format!(in alloc; "{name}={found}")?.as_str())?;
+    }
+    Ok(text)
 }
