@@ -1,5 +1,6 @@
 pub mod Cuts
 pub mod Faults
+pub mod FaultText
 pub mod Lexical
 pub mod Marks
 pub mod Numbers

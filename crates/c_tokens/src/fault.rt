@@ -34,21 +34,36 @@ pub enum TokenFault {
 }
 
 impl fmt::Display for TokenFault {
+    ghost use Rattle.std.specs.Prelude.{Some};
+    ghost use Rattle.c_tokens.specs.FaultText.{text_of};
+
+    ghost output = { λ fault. Some (text_of fault) };
+
     fn fmt<W: fmt::Write>(&self, f: &mut fmt::Formatter<W>) -> fmt::Result {
         match self {
-            TokenFault::BadByte(place) => write_at(f, "BadByte", place),
-            TokenFault::BadNumber(place) => write_at(f, "BadNumber", place),
-            TokenFault::LongName(place) => write_at(f, "LongName", place),
-            TokenFault::OpenText(place) => write_at(f, "OpenText", place),
+            TokenFault::BadByte(place) => {
+                let line = place.line;
+                let col = place.col;
+                write!(f, "BadByte {line}:{col}")
+            }
+            TokenFault::BadNumber(place) => {
+                let line = place.line;
+                let col = place.col;
+                write!(f, "BadNumber {line}:{col}")
+            }
+            TokenFault::LongName(place) => {
+                let line = place.line;
+                let col = place.col;
+                write!(f, "LongName {line}:{col}")
+            }
+            TokenFault::OpenText(place) => {
+                let line = place.line;
+                let col = place.col;
+                write!(f, "OpenText {line}:{col}")
+            }
             TokenFault::OutOfMemory => f.write_str("no memory"),
         }
     }
-}
-
-fn write_at<W: fmt::Write>(f: &mut fmt::Formatter<W>, kind: &str, place: &Place) -> fmt::Result {
-    let line = place.line;
-    let col = place.col;
-    write!(f, "{kind} {line}:{col}")
 }
 
 impl Error for TokenFault {}
