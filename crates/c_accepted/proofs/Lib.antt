@@ -27,6 +27,7 @@ mod Moving
 mod Naming
 mod Numbering
 mod Owns
+mod Places
 mod Planning
 mod Small
 mod Sizing

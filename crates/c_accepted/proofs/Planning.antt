@@ -1,18 +1,19 @@
 -- The frames of a plan are those of a planned layout, and its functions have symbols of their own.
 use Rattle.std.proofs.Common.{◌≡◌, ℕ, zero, suc, ◌+◌, ◌≤◌, ◌<◌, ◌&&◌, not, Bool, true, false, refl, ap, List, [], ◌∷◌, map, length, arith}
-use Rattle.std.specs.Prelude.{◌≢◌}
 use Rattle.mx_base.specs.declared.settings.Flags.{Flags}
 use Rattle.c_tree.specs.declared.tree.Tree.{Tree}
 use Rattle.c_tree.specs.Formed.{IsFormed}
 use Rattle.c_types.specs.declared.layout.Layout.{Layout}
 use Rattle.c_types.specs.Types.{CType, Void, Int, Pointer, Array, Struct, StructType}
 use Rattle.c_types.specs.Layouts.{layout_of}
-use Rattle.c_check_rules.specs.declared.names.Function.{Function}
+use Rattle.c_check_rules.specs.declared.names.Function.{Function as KnownFunction}
 use Rattle.c_check_rules.specs.Conversions.{is_scalar}
 use Rattle.c_check_statements.specs.declared.state.Body.{Body}
 use Rattle.c_check_statements.specs.declared.state.BodyVariable.{BodyVariable}
 use Rattle.c_check_statements.specs.Frames.{is_private}
 use Rattle.c_check.specs.Accepted.{IsAccepted, after}
+use Rattle.c_check.specs.declared.symbols.Subject.TheVariants.{Function}
+use Rattle.c_check.specs.Symbols.{named}
 use Rattle.c_check.specs.Standing.{structs_seen}
 use Rattle.place_plan.specs.Frames.{values_of, spot_at, free_after, spots_from, nothing_taken, frame_plan}
 use Rattle.place_plan.specs.Source.{variable_known, body_known, plan_of}
@@ -21,11 +22,12 @@ use Rattle.c_accepted.specs.Alike.{meanings_of, signatures_seen}
 use Rattle.c_accepted.specs.Frames.{StandAs, AllStand, AllPlanned}
 use Rattle.c_accepted.specs.Linked.{defined_by, CanBeLinked}
 use Rattle.c_accepted.specs.Meeting.{AllMeet}
-use Rattle.c_accepted.specs.Planned.{stand_of, layout_frame, planned_frames, numbers_from, layout_of_plan, planned_source}
-use Rattle.c_accepted.specs.Symbols.{arguments_of, Lacks, AllDiffer, HaveSymbols}
+use Rattle.c_accepted.specs.Planned.{stand_of, layout_frame, planned_frames, layout_of_plan, planned_source}
+use Rattle.c_accepted.specs.Symbols.{arguments_of, HaveSymbols}
 use Rattle.c_accepted.proofs.Elaborating.{gone_alike}
 use Rattle.c_accepted.proofs.Links.{can_link}
 use Rattle.c_accepted.proofs.Meeting.{planned_meet}
+use Rattle.c_accepted.proofs.Places.{numbers_differ, as_many_numbers}
 
 -- ---- frames
 
@@ -55,22 +57,7 @@ frames_planned tree = all_planned (structs_seen (after tree).scope.structs) (aft
 
 -- ---- symbols
 
-lacks_earlier : (n first count : ℕ) → n < first → Lacks n (numbers_from first count)
-lacks_earlier n first zero lt = tt
-lacks_earlier n first (suc count) lt = (differs, lacks_earlier n (first + 1) count (omega (arith, lt)))
-  where
-    differs : n ≢ first
-    differs e = omega (arith, lt, e)
-
-numbers_differ : (first count : ℕ) → AllDiffer (numbers_from first count)
-numbers_differ first zero = tt
-numbers_differ first (suc count) = (lacks_earlier first (first + 1) count (omega arith), numbers_differ (first + 1) count)
-
-as_many_numbers : (first count : ℕ) → length (numbers_from first count) ≡ count
-as_many_numbers first zero = refl
-as_many_numbers first (suc count) = ap suc (as_many_numbers (first + 1) count)
-
-as_many_signatures : (fs : List Function) → length (signatures_seen fs) ≡ length fs
+as_many_signatures : (fs : List KnownFunction) → length (signatures_seen fs) ≡ length fs
 as_many_signatures [] = refl
 as_many_signatures (f ∷ fs) = ap suc (as_many_signatures fs)
 
@@ -78,8 +65,8 @@ pub symbols_had : (tree : Tree) (room : ℕ) → IsFormed tree → room ≤ 3276
 symbols_had tree room formed few h literals flags =
     let layout = layout_of_plan tree literals in let scope = (after tree).scope in
     let signatures = ap length (gone_alike tree room formed few h layout flags).signatures in let known = as_many_signatures scope.functions in
-    let symbols = as_many_numbers (length scope.variables) (length scope.functions) in
-    record { enough = omega (arith, signatures, known, symbols); differ = numbers_differ (length scope.variables) (length scope.functions) }
+    let behind = length (named tree) + 1 + length scope.variables in let symbols = as_many_numbers Function (named tree) behind 0 (length scope.functions) in
+    record { enough = omega (arith, signatures, known, symbols); differ = numbers_differ (named tree) behind 0 (length scope.functions) (omega arith) }
 
 -- ---- functions
 

@@ -1,10 +1,13 @@
--- The layout of a source by its plan: its globals have the first symbols, its functions those behind them, and its literals one more.
-use Rattle.std.specs.Prelude.{ℕ, zero, suc, ◌+◌, ◌≤◌, List, [], ◌∷◌, map, length}
+-- The layout of a source by its plan: its globals, functions and literals have the numbers of their symbols in the list of the source.
+use Rattle.std.specs.Prelude.{ℕ, zero, suc, ◌+◌, ◌≤◌, Option, None, Some, List, [], ◌∷◌, map, length}
 use Rattle.mx_base.specs.declared.settings.Flags.{Flags}
 use Rattle.c_tree.specs.declared.tree.Tree.{Tree}
 use Rattle.c_tree.specs.Formed.{IsFormed}
 use Rattle.c_check_statements.specs.declared.state.State.{State}
 use Rattle.c_check.specs.Accepted.{IsAccepted, after}
+use Rattle.c_check.specs.declared.symbols.Subject.{Subject}
+use Rattle.c_check.specs.declared.symbols.Subject.TheVariants.{Global, Function}
+use Rattle.c_check.specs.Symbols.{named, place_from}
 use Rattle.place_plan.specs.declared.plans.Spot.{Spot}
 use Rattle.place_plan.specs.declared.plans.Spot.TheVariants as spot
 use Rattle.place_plan.specs.declared.plans.FramePlan.{FramePlan}
@@ -26,23 +29,28 @@ planned_frames tree = map layout_frame (plan_of tree).frames
 
 -- ---- symbols
 
--- so many numbers one after another
-abbrev pub numbers_from : (first count : ℕ) → List ℕ
-numbers_from first zero = []
-numbers_from first (suc n) = first ∷ numbers_from (first + 1) n
+-- what has no symbol has a number of its own behind those of all symbols
+abbrev pub number_or : (other : ℕ) → Option ℕ → ℕ
+number_or other None = other
+number_or other (Some n) = n
 
-abbrev pub layout_by : State → (literals : List ℕ) → List FrameLayout → SourceLayout
-layout_by state literals frames = record {
-  globals = numbers_from 0 (length state.scope.variables);
-  functions = numbers_from (length state.scope.variables) (length state.scope.functions);
-  texts = length state.scope.variables + length state.scope.functions;
+abbrev pub numbers_from : (ℕ → Subject) → (named : List Subject) → (behind first count : ℕ) → List ℕ
+numbers_from subject named behind first zero = []
+numbers_from subject named behind first (suc n) = number_or (behind + first) (place_from 0 (subject first) named) ∷ numbers_from subject named behind (first + 1) n
+
+-- these have symbols, in this order, and behind them the literals
+abbrev pub layout_by : State → (named : List Subject) → (literals : List ℕ) → List FrameLayout → SourceLayout
+layout_by state named literals frames = record {
+  globals = numbers_from Global named (length named + 1) 0 (length state.scope.variables);
+  functions = numbers_from Function named (length named + 1 + length state.scope.variables) 0 (length state.scope.functions);
+  texts = length named;
   literals = literals;
   frames = frames;
 }
 
 -- the layout of a source whose literals stand at these offsets behind their symbol
 abbrev pub layout_of_plan : Tree → (literals : List ℕ) → SourceLayout
-layout_of_plan tree literals = layout_by (after tree) literals (planned_frames tree)
+layout_of_plan tree literals = layout_by (after tree) (named tree) literals (planned_frames tree)
 
 abbrev pub planned_source : (tree : Tree) (room : ℕ) → IsFormed tree → room ≤ 32768 → IsAccepted tree room → (literals : List ℕ) → Flags → Source
 planned_source tree room formed few accepted literals flags = record { tree = tree; room = room; formed = formed; few = few; accepted = accepted; layout = layout_of_plan tree literals; flags = flags }

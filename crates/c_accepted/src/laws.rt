@@ -1,6 +1,6 @@
 //! Laws of accepted sources. Each function does nothing, or names the laws that it rests on, and its contract is the law.
 
-ghost use Rattle.std.specs.Prelude.{◌≡◌, ◌≤◌, ℕ, Bool, Some, List, [], ◌++◌, ◌+◌, length};
+ghost use Rattle.std.specs.Prelude.{◌≡◌, ◌<◌, ◌≤◌, ℕ, Bool, Some, List, [], ◌∷◌, ◌++◌, ◌+◌, length, slice_get, slice_index_or};
 ghost use Rattle.mx_base.specs.declared.settings.Flags.{Flags as FlagsOf};
 ghost use Rattle.c_tree.specs.declared.tree.Tree.{Tree as TreeOf};
 ghost use Rattle.c_tree.specs.declared.tree.Item.{Item as ItemOf};
@@ -14,6 +14,9 @@ ghost use Rattle.c_check_typing.specs.Notes.{leaf};
 ghost use Rattle.c_check_typing.specs.Rules.{name_own};
 ghost use Rattle.c_check_typing.specs.Expressions.{Arguments, seen, call_seen};
 ghost use Rattle.c_check.specs.Accepted.{IsAccepted, after};
+ghost use Rattle.c_check.specs.declared.symbols.Subject.{Subject as SubjectOf};
+ghost use Rattle.c_check.specs.declared.symbols.Subject.TheVariants as subject;
+ghost use Rattle.c_check.specs.Symbols.{named, number_of, symbol_of, symbols, HasNumber};
 ghost use Rattle.c_check_statements.specs.Sources.{items, at_start};
 ghost use Rattle.bounds_plan.specs.ElaborateSource.{Meanings, Reached, SourceLayout, Signature, Around, bind_at, kind_at};
 ghost use Rattle.mx_base.specs.World.{World, Log, world_at_start, empty_log};
@@ -178,9 +181,19 @@ pub fn plans_have_symbols()
     ensures { (tree : TreeOf) (room : ℕ) → IsFormed tree → room ≤ 32768 → IsAccepted tree room → (literals : List ℕ) (flags : FlagsOf) → let layout = layout_of_plan tree literals in HaveSymbols layout (signatures_of tree (meanings_of (after tree).notes) layout flags) }
 {}
 
-/// In the layout by the plan of a source that declares a function, no global has the symbol of the literals.
+/// In the layout by the plan of a source of which a global or function has a symbol, no global has the number of the literals.
 pub fn plans_keep_literals_apart()
-    ensures { (tree : TreeOf) (literals : List ℕ) → 1 ≤ length (after tree).scope.functions → TextsApart (layout_of_plan tree literals) }
+    ensures { (tree : TreeOf) (literals : List ℕ) (one : SubjectOf) → HasNumber tree one → TextsApart (layout_of_plan tree literals) }
+{}
+
+/// In the layout by the plan of a source each global and function that has a symbol has its number, which is its place in the list of the source's
+/// symbols, and the number of the literals is that of the symbol behind all of these.
+pub fn plans_have_the_numbers_of_symbols()
+    ensures globals { (tree : TreeOf) (literals : List ℕ) (n number : ℕ) → n < length (after tree).scope.variables → number_of tree (subject.Global n) ≡ Some number → slice_index_or (layout_of_plan tree literals).globals n 0 ≡ number }
+    ensures functions { (tree : TreeOf) (literals : List ℕ) (n number : ℕ) → n < length (after tree).scope.functions → number_of tree (subject.Function n) ≡ Some number → slice_index_or (layout_of_plan tree literals).functions n 0 ≡ number }
+    ensures literals { (tree : TreeOf) (literals : List ℕ) → (layout_of_plan tree literals).texts ≡ length (named tree) }
+    ensures symbols { (tree : TreeOf) (named_one : SubjectOf) (number : ℕ) → number_of tree named_one ≡ Some number → slice_get (symbols tree) number ≡ Some (symbol_of (after tree) named_one) }
+    ensures last { (tree : TreeOf) (byte : ℕ) (more : List ℕ) → (after tree).notes.literals ≡ byte ∷ more → slice_get (symbols tree) (length (named tree)) ≡ Some (symbol_of (after tree) subject.Literals) }
 {}
 
 /// Every function of an accepted source, laid out by its plan, is as is asked of it: for its steps to do what it means, for homes to be given to their

@@ -13,5 +13,6 @@ pub use laws::{
     linked_programs_name_what_is_made, names_mean_what_is_found, planned_frames_have_few_privates,
     planned_functions_are_as_is_asked, planned_parameters_are_framed,
     planned_sources_can_be_linked, plans_are_layouts, plans_have_symbols,
-    plans_keep_literals_apart, programs_can_be_linked, symbols_can_take_parameters,
+    plans_have_the_numbers_of_symbols, plans_keep_literals_apart, programs_can_be_linked,
+    symbols_can_take_parameters,
 };

@@ -86,8 +86,8 @@ three_of_value a b c = more_kinds NotConst a (breaks NotPlace b ++ breaks BadTyp
     (more_kinds NotPlace b (breaks BadType c) (before_last NotPlace BadType c refl) (one_kind BadType c))
 
 one_order : (filled : Filled) (target : Option CType) (t : Option Typed) → InOrder (one_kinds filled target t)
-one_order filled None t = refl
-one_order filled (Some kind) None = refl
+one_order filled target None = refl
+one_order filled None (Some t) = one_kind NotPlace _
 one_order filled (Some kind) (Some t) = three_of_value _ _ _
 
 many_order : (structs : List StructInfo) (target : Option CType) (count : ℕ) → InOrder (many_kinds structs target count)
@@ -131,10 +131,12 @@ test_order : (t : Option Typed) → InOrder (test_kinds t)
 test_order None = refl
 test_order (Some t) = one_kind BadType _
 
-return_order : (result : CType) (value : Option Expr) (t : Option Typed) → InOrder (return_kinds result value t)
-return_order result None t = one_kind BadType _
+return_order : (result : Option CType) (value : Option Expr) (t : Option Typed) → InOrder (return_kinds result value t)
+return_order None None t = refl
+return_order (Some result) None t = one_kind BadType _
 return_order result (Some x) None = refl
-return_order result (Some x) (Some t) = one_kind BadType _
+return_order None (Some x) (Some t) = refl
+return_order (Some result) (Some x) (Some t) = one_kind BadType _
 
 local_order : (structs : List StructInfo) (init : Option Init) (kind : Option CType) → InOrder (local_kinds structs init kind)
 local_order structs None kind = refl

@@ -12,6 +12,7 @@ use Rattle.c_check_statements.specs.declared.state.State.{State}
 use Rattle.c_check_statements.specs.declared.state.Body.{Body}
 use Rattle.c_check_statements.specs.declared.state.BodyVariable.{BodyVariable}
 use Rattle.c_check.specs.declared.checked.GlobalVariable.{GlobalVariable}
+use Rattle.c_check.specs.declared.symbols.Symbol.{Symbol}
 use Rattle.c_check.specs.declared.checked.CheckedBody.{CheckedBody}
 use Rattle.c_check.specs.declared.checked.CheckedStruct.{CheckedStruct}
 use Rattle.c_check.specs.Checked.{Number, IsGlobals, AreBodies, AreStructs, Says}
@@ -81,11 +82,11 @@ module _ (structs : List StructInfo) (table : Types) (h : Begun structs table) (
 -- ---- what is said of the last table
 
 pub says : (state : State) (start one two three last : Types) (kinds : List TypeId) (binds : List Bind) (declared : List TypeId) (variables : List GlobalVariable) (bodies : List CheckedBody) (structs : List CheckedStruct)
-    (global_items constants literals : List ℕ) → Begun state.scope.structs last → Grows start one → AreStructs start structs state.scope.structs → global_items ≡ state.global_items → constants ≡ state.notes.constants → literals ≡ state.notes.literals
+    (global_items constants literals : List ℕ) (symbols : List Symbol) → Begun state.scope.structs last → Grows start one → AreStructs start structs state.scope.structs → global_items ≡ state.global_items → constants ≡ state.notes.constants → literals ≡ state.notes.literals
     → Grows one two → Grows two three → Grows three last
     → Number one kinds state.notes.kinds → binds ≡ state.notes.binds → Number two declared state.notes.declared → IsGlobals three variables state.scope.variables → AreBodies last bodies state.bodies
-    → Says state (record { types = last; kinds = kinds; binds = binds; declared = declared; variables = variables; bodies = bodies; structs = structs; global_items = global_items; constants = constants; literals = literals })
-says state start one two three last kinds binds declared variables bodies structs global_items constants literals begun e known items words texts f g h ks bs ds vs are =
+    → Says state (record { types = last; kinds = kinds; binds = binds; declared = declared; variables = variables; bodies = bodies; structs = structs; global_items = global_items; constants = constants; literals = literals; symbols = symbols })
+says state start one two three last kinds binds declared variables bodies structs global_items constants literals symbols begun e known items words texts f g h ks bs ds vs are =
     let two-last : Grows two last = grows-then two three last g h in
     let one-last : Grows one last = grows-then one two last f two-last in
     record {

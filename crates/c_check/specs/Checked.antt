@@ -21,6 +21,7 @@ use Rattle.c_check.specs.declared.checked.CheckedStruct.{CheckedStruct}
 use Rattle.c_check.specs.declared.checked.Checked.{Checked}
 use Rattle.c_check.specs.Accepted.{IsAccepted, after, broken}
 use Rattle.c_check.specs.Standing.{structs_seen}
+use Rattle.c_check.specs.Symbols.{symbols}
 
 -- the types of these numbers
 abbrev pub types_at : Types → List TypeId → List CType
@@ -79,13 +80,14 @@ pub record Says (state : State) (c : Checked) : Type 0 where
   pub constants : c.constants ≡ state.notes.constants
   pub literals : c.literals ≡ state.notes.literals
 
--- an answer that may be given for an accepted tree, which is formed
+-- an answer that may be given for an accepted tree, which is formed; the symbols are those of the tree
 pub record IsChecked (tree : Tree) (c : Checked) : Type 0 where
   pub room : ℕ
   pub few : room ≤ 32768
   pub formed : IsFormed tree
   pub accepted : IsAccepted tree room
   pub says : Says (after tree) c
+  pub symbols : c.symbols ≡ symbols tree
 
 -- the first broken rule is told with its place; want of memory says nothing
 abbrev pub IsRefusal : Tree → (room : ℕ) → CheckFault → Type 0
@@ -94,4 +96,4 @@ IsRefusal tree room OutOfMemory = Unit {0}
 
 -- a source is accepted, and this is said of it
 abbrev pub SaysOf : Tree → (room : ℕ) → Checked → Type 0
-SaysOf tree room c = IsAccepted tree room × Says (after tree) c
+SaysOf tree room c = IsAccepted tree room × Says (after tree) c × (c.symbols ≡ symbols tree)

@@ -1,5 +1,6 @@
 //! What a checked source says.
 
+use crate::symbols::Symbol;
 use c_check_rules::Bind;
 use c_tree::Bytes;
 use c_types::{TypeId, TypeTable};
@@ -55,4 +56,6 @@ pub struct Checked {
     pub constants: Items<u64>,
     /// The bytes of all text literals in order, each with the byte 0 at its end.
     pub literals: Bytes,
+    /// The symbols of the source, each by its place in this list.
+    pub symbols: Items<Symbol>,
 }

@@ -2,7 +2,7 @@
 
 ghost use Rattle.mx_base.specs.declared.places.Place.{Place};
 ghost use Rattle.c_tree.specs.declared.tree.Tree.{Tree};
-ghost use Rattle.std.specs.Prelude.{◌≡◌, ◌↔◌, ◌⊎◌, ◌≤◌, ◌++◌, ℕ, Bool, true, false, List, [], ◌∷◌, Option, None, Some, Contains, flat_map, map, option_map, length, codes};
+ghost use Rattle.std.specs.Prelude.{◌≡◌, ◌↔◌, ◌⊎◌, ◌≤◌, ◌++◌, ℕ, Bool, true, false, List, [], ◌∷◌, Option, None, Some, Contains, flat_map, map, option_map, length, codes, slice_get};
 ghost use Rattle.c_tree.specs.declared.tree.ItemKind.TheVariants as k;
 ghost use Rattle.c_tree.specs.declared.tree.Decl.{Decl};
 ghost use Rattle.c_tree.specs.declared.tree.Expr.{Expr};
@@ -33,7 +33,11 @@ ghost use Rattle.c_check.specs.NodeRules.{decl_rules, rules_of, broken_in, InTre
 ghost use Rattle.c_check.specs.Rooms.{HaveRoom};
 ghost use Rattle.c_check.specs.SmallSources.{calls_own, long_name, names_long, passes_text, uses_one};
 ghost use Rattle.c_check.specs.Standing.{structs_seen, AreLaid, CanBeNumbered};
-ghost use Rattle.c_check.specs.Symbols.{Defined, Imported, entry, stands_in, symbols};
+ghost use Rattle.c_check.specs.declared.symbols.Subject.TheVariants.{Global as TheGlobal, Function as TheFunction, Literals};
+ghost use Rattle.c_check.specs.declared.symbols.SymbolKind.TheVariants.{Defined, Imported};
+ghost use Rattle.c_check.specs.Symbols.{entry, has_symbol, symbols, HasNumber};
+ghost use Rattle.c_check_rules.specs.declared.names.Variable.{Variable as VariableOf};
+ghost use Rattle.c_check_rules.specs.declared.names.Function.{Function as FunctionOf};
 
 /// A statement breaks what its parts break, in order, and then its own rules: what each form is beside its parts is said by a rule of its own.
 pub fn statements_are_walked_by_their_parts()
@@ -126,13 +130,18 @@ pub fn rules_of_each_node_are_in_order()
     ensures { (node : Node) → InOrder (rules_of node) }
 {}
 
+/// Each global and function that a source knows has a symbol, if the source defines it or uses it in an expression outside of `sizeof`.
+pub fn what_is_defined_or_used_has_a_symbol()
+    ensures globals { (tree : Tree) (n : ℕ) (v : VariableOf) → n ≤ 4294967295 → slice_get (after tree).scope.variables n ≡ Some v → has_symbol (after tree) (TheGlobal n) ≡ true → HasNumber tree (TheGlobal n) }
+    ensures functions { (tree : Tree) (n : ℕ) (f : FunctionOf) → n ≤ 4294967295 → slice_get (after tree).scope.functions n ≡ Some f → has_symbol (after tree) (TheFunction n) ≡ true → HasNumber tree (TheFunction n) }
+{}
+
 /// The symbols of four small sources: what they define, what they take from elsewhere and use outside `sizeof`, and their text literals. They are
-/// accepted, and where their names stand is as long a list as what they are bound to.
+/// accepted.
 pub fn small_sources_have_these_symbols()
-    ensures one_import { symbols uses_one ≡ entry Imported (codes "a") (codes "d4") ∷ entry Defined (codes "c") (codes "d4") ∷ entry Defined (codes "main") (codes "fi()") ∷ [] }
-    ensures text { symbols passes_text ≡ entry Defined (codes "c") (codes "d4") ∷ entry Imported (codes "f") (codes "fi(p)") ∷ entry Defined (codes "main") (codes "fi()") ∷ entry Defined (codes "__text_main") (codes "d3") ∷ [] }
-    ensures no_import { symbols calls_own ≡ entry Defined (codes "f") (codes "fi(p)") ∷ entry Defined (codes "main") (codes "fi()") ∷ [] }
-    ensures long { symbols names_long ≡ entry Defined long_name (codes "fi()") ∷ entry Defined (codes "__text_a123456789a123456789a123456789a123456789a123456789a12345") (codes "d2") ∷ [] }
+    ensures one_import { symbols uses_one ≡ entry (TheGlobal 0) Imported (codes "a") (codes "d4") ∷ entry (TheGlobal 2) Defined (codes "c") (codes "d4") ∷ entry (TheFunction 1) Defined (codes "main") (codes "fi()") ∷ [] }
+    ensures text { symbols passes_text ≡ entry (TheGlobal 0) Defined (codes "c") (codes "d4") ∷ entry (TheFunction 0) Imported (codes "f") (codes "fi(p)") ∷ entry (TheFunction 1) Defined (codes "main") (codes "fi()") ∷ entry Literals Defined (codes "__text_main") (codes "d3") ∷ [] }
+    ensures no_import { symbols calls_own ≡ entry (TheFunction 0) Defined (codes "f") (codes "fi(p)") ∷ entry (TheFunction 1) Defined (codes "main") (codes "fi()") ∷ [] }
+    ensures long { symbols names_long ≡ entry (TheFunction 0) Defined long_name (codes "fi()") ∷ entry Literals Defined (codes "__text_a123456789a123456789a123456789a123456789a123456789a12345") (codes "d2") ∷ [] }
     ensures accepted { IsAccepted uses_one 18 × IsAccepted passes_text 18 × IsAccepted calls_own 18 × IsAccepted names_long 18 }
-    ensures along { (length (stands_in uses_one) ≡ length (after uses_one).notes.binds) × (length (stands_in passes_text) ≡ length (after passes_text).notes.binds) × (length (stands_in calls_own) ≡ length (after calls_own).notes.binds) × (length (stands_in names_long) ≡ length (after names_long).notes.binds) }
 {}

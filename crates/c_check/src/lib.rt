@@ -5,6 +5,7 @@ mod checked;
 mod laws;
 mod numbers;
 mod source;
+mod symbols;
 
 pub use checked::{Checked, CheckedBody, CheckedStruct, GlobalVariable, LocalVariable};
 pub use laws::{
@@ -14,5 +15,7 @@ pub use laws::{
     initialisers_are_walked_by_their_parts, items_are_walked_by_their_parts,
     parts_of_a_node_come_first, rules_of_each_node_are_in_order, small_sources_have_these_symbols,
     statements_are_walked_by_their_parts, walks_break_rules_in_order,
+    what_is_defined_or_used_has_a_symbol,
 };
 pub use source::{check, read_source};
+pub use symbols::{Subject, Symbol, SymbolKind, source_symbols};

@@ -10,6 +10,7 @@ ghost use Rattle.c_check.specs.Checked.{Number, IsLocals, IsGlobals, IsStruct, A
 ghost use Rattle.c_check.specs.Standing.{structs_seen, members_in_all, variables_in_all, AreLaid, CanBeNumbered};
 
 use crate::checked::{Checked, CheckedBody, CheckedStruct, GlobalVariable, LocalVariable};
+use crate::symbols::Symbol;
 use c_check_rules::{Core, Layer, Member, StructInfo, Type, Variable};
 use c_check_statements::{Body, BodyVariable, State};
 use c_tree::Bytes;
@@ -212,10 +213,15 @@ fn copy_bytes(alloc: Global, bytes: &[u8]) -> Result<Bytes, OutOfMemory>
     Ok(Bytes::from_vec(copied))
 }
 
-/// What is known of a source, with its types by their numbers.
-pub fn number_state(alloc: Global, state: &State) -> Result<Checked, OutOfMemory>
+/// What is known of a source, with its types by their numbers and its symbols.
+pub fn number_state(
+    alloc: Global,
+    state: &State,
+    symbols: Items<Symbol>,
+) -> Result<Checked, OutOfMemory>
     requires { CanBeNumbered state.now }
-    ensures { IfOk result (λ c. Says state.now c) }
+    ensures says { IfOk result (λ c. Says state.now c) }
+    ensures symbols { IfOk result (λ c. c.symbols ≡ symbols) }
 {
     let mut structs = Items::new(alloc);
     let mut types = number_structs(alloc, &mut structs, state.scope.structs.as_slice())?;
@@ -238,5 +244,6 @@ pub fn number_state(alloc: Global, state: &State) -> Result<Checked, OutOfMemory
         global_items,
         constants,
         literals,
+        symbols,
     })
 }

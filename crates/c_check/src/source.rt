@@ -11,6 +11,7 @@ ghost use Rattle.c_check.specs.Checked.{IsRefusal, SaysOf};
 use crate::checked::Checked;
 use crate::laws::accepted_sources_can_be_numbered;
 use crate::numbers::number_state;
+use crate::symbols::source_symbols;
 use c_check_rules::{LIMIT, StructInfo, Variable};
 use c_check_statements::{State, kind_placed, read_items, start_state};
 use c_check_typing::{CheckFault, CheckKind};
@@ -104,6 +105,7 @@ pub fn check(alloc: Global, tree: &Tree, room: u32) -> Result<Checked, CheckFaul
 {
     let state = read_source(alloc, tree, room)?;
     accepted_sources_can_be_numbered();
-    let checked = number_state(alloc, &state)?;
+    let symbols = source_symbols(alloc, &state)?;
+    let checked = number_state(alloc, &state, symbols)?;
     Ok(checked)
 }

@@ -14,7 +14,8 @@ use Rattle.c_check_typing.specs.declared.fault.Broken.{Broken}
 use Rattle.c_check_typing.specs.declared.fault.CheckFault.{CheckFault}
 use Rattle.c_check_typing.specs.declared.fault.CheckFault.TheVariants.{Refused, OutOfMemory}
 use Rattle.c_check_typing.specs.Refusals.{FirstIs, broken_at, all_at}
-use Rattle.c_check_typing.specs.Notes.{Own, Seen, node, leaf, one, two, three, first_literals, unevaluated, with_typed, Ends, Reads}
+use Rattle.c_check_rules.specs.declared.predeclared.Bind.{Bind}
+use Rattle.c_check_typing.specs.Notes.{Own, Seen, node, leaf, one, two, three, first_evaluated, unevaluated, with_typed, Ends, Reads}
 use Rattle.c_check_typing.specs.Rules.{params_of, params_after, takes_function, argument_fits, is_empty, call_own}
 use Rattle.c_check_typing.specs.Expressions.{Reading, Arguments, arguments, and_fits, seen, call, ReadsAll}
 
@@ -204,15 +205,16 @@ no_argument args i h = drop_all i args h
 
 -- ---- what is not evaluated
 
-pub unevaluated_reads : {a : Seen} {old mid : Notes} {t : Typed} {count : ℕ} {kept : List ℕ}
-    → count ≡ length old.literals → kept ≡ take count mid.literals → Reads a old (Ok t) mid → Reads (unevaluated a) old (Ok t) (record mid { literals = kept })
+pub unevaluated_reads : {a : Seen} {old mid : Notes} {t : Typed} {count uses : ℕ} {kept : List ℕ} {used : List Bind}
+    → count ≡ length old.literals → uses ≡ length old.used → kept ≡ take count mid.literals → used ≡ take uses mid.used → Reads a old (Ok t) mid → Reads (unevaluated a) old (Ok t) (record mid { literals = kept; used = used })
 unfolding unevaluated
-unevaluated_reads {a = a} {old = old} {mid = mid} e k h = record {
+unevaluated_reads {a = a} {old = old} {mid = mid} {count = count} {uses = uses} {kept = kept} {used = used} e f k l h = record {
   is = (
     h.is.0,
     h.is.1,
-    ap (λ (l : List ℕ). let n : Notes = record mid { literals = l } in n) k
-        ∙ (ap (λ (n : ℕ). first_literals n mid) e ∙ ap (λ (n : Notes). first_literals (length old.literals) n) h.is.2),
+    ap (λ (bytes : List ℕ). let n : Notes = record mid { literals = bytes; used = used } in n) k
+        ∙ (ap (λ (binds : List Bind). let n : Notes = record mid { literals = take count mid.literals; used = binds } in n) l
+        ∙ (ap (λ (n : ℕ). first_evaluated n uses mid) e ∙ (ap (λ (n : ℕ). first_evaluated (length old.literals) n mid) f ∙ ap (λ (n : Notes). first_evaluated (length old.literals) (length old.used) n) h.is.2))),
   );
 }
 

@@ -109,12 +109,12 @@ of_kind_order (Some kind) constant = refl
 pub binary_order : (structs : List StructInfo) (op : ℕ) (a e : Typed) → InOrder (binary_own structs op a e).broken
 unfolding binary_own
 binary_order structs op a e = of_kind_order (binary_kind structs op (r.decayed a.kind) (r.decayed e.kind) a.is_zero e.is_zero)
-    (r.binary_constant op (outer_of a.kind) (outer_of e.kind) a.constant e.constant)
+    (r.binary_constant structs op a e)
 
 pub choice_order : (test a e : Typed) → InOrder (choice_own test a e).broken
 unfolding choice_own
 choice_order test a e = either (is_scalar (r.decayed test.kind)) _ _ (of_kind_order (choice_kind (r.decayed a.kind) (r.decayed e.kind) a.is_zero e.is_zero)
-    (r.choice_constant (outer_of test.kind) (outer_of a.kind) (outer_of e.kind) test.constant a.constant e.constant)) refl
+    (r.choice_constant test a e)) refl
 
 pub assign_order : (structs : List StructInfo) (op : Option ℕ) (a e : Typed) → InOrder (assign_own structs op a e).broken
 unfolding assign_own

@@ -101,8 +101,10 @@ pub fn read_expr(
         }
         ExprKind::SizeOfValue(a) => {
             let literals = notes.literals.len();
+            let used = notes.used.len();
             let t = read_expr(alloc, scope, notes, false, a.get())?;
             notes.literals.truncate(literals);
+            notes.used.truncate(used);
             end_size(alloc, scope, notes, place, &t.kind)
         }
     }

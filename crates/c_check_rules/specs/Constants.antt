@@ -1,5 +1,5 @@
--- Constants, by their 64-bit words. Numbers, characters, `sizeof` and the operators over integers give them, and casts; a division without a
--- quotient stops; everything else is none.
+-- Constants, by their 64-bit words; that of a pointer is its address. Numbers, characters, `sizeof` and the operators over integers and pointers
+-- give them, and casts; a division without a quotient stops; everything else is none.
 use Rattle.std.specs.Prelude.{ℕ, ◌==◌, nat_lt, Bool, true, false, ◌||◌, if◌then◌else◌, Option, None, Some}
 use Rattle.mx_base.specs.declared.numbers.IntKind.{IntKind}
 use Rattle.mx_base.specs.declared.numbers.IntKind.TheVariants.{U64}
@@ -75,7 +75,7 @@ fold_strict op k (c.Value w) c.No = c.No
 fold_strict op k (c.Value w) c.Stops = c.Stops
 fold_strict op k (c.Value w) (c.Value v) = binary_word op k w v
 
--- an operator of two operands over integers, where k is the type in which they are taken
+-- an operator of two operands, where k is the type in which they are taken
 abbrev pub fold_binary : ℕ → IntKind → Constant → Constant → Constant
 fold_binary op k a b = if nat_lt op 16 then fold_strict op k a b else fold_logic op a b
 
@@ -102,6 +102,6 @@ chosen k (c.Value w) a b = cast_constant (o.Int k) (if w == 0 then b else a)
 chosen k c.Stops a b = c.Stops
 chosen k c.No a b = c.No
 
--- `?:` over integers: all three are constants, and the one that is evaluated counts
+-- `?:` over values that become one of this type, a pointer being taken as a U64: all three are constants, and the one that is evaluated counts
 abbrev pub choose : IntKind → Constant → Constant → Constant → Constant
 choose k test a b = if is_no test || (is_no a || is_no b) then c.No else chosen k test a b

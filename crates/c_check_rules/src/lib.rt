@@ -23,4 +23,6 @@ pub use names::{
 };
 pub use operators::{binary_kind, choice_kind};
 pub use predeclared::{Bind, Found, predeclared_at};
-pub use sizes::{LIMIT, align_in, is_inner_sized, is_sized, is_within, scalars_in, size_in};
+pub use sizes::{
+    LIMIT, align_in, inner_size, is_inner_sized, is_sized, is_within, scalars_in, size_in,
+};

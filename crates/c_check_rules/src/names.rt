@@ -107,8 +107,8 @@ pub struct Scope {
     pub from: usize,
     /// The types of all parameters and locals of the function so far, by their numbers.
     pub made: Items<Type>,
-    /// The type of the function's result.
-    pub result: Type,
+    /// The type of the function's result, where it is known.
+    pub result: Option<Type>,
     pub in_loop: bool,
     /// Whether the block that comes is the function's body, whose names stand beside the parameters.
     pub at_body: bool,

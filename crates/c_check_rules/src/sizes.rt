@@ -85,15 +85,22 @@ pub fn size_in(structs: &[StructInfo], kind: &Type) -> Option<u64>
     size_of_parts(structs, kind.core(), kind.layers())
 }
 
+/// The size in bytes of what a pointer points to, or an array has as elements, where it has one within the limits.
+pub fn inner_size(structs: &[StructInfo], kind: &Type) -> Option<u64>
+    ensures { result ≡ spec.size_in structs.now (inner_of kind.now) }
+{
+    match kind.layers() {
+        [] => core_size(structs, kind.core()),
+        [Layer::Pointer, rest @ ..] => size_of_parts(structs, kind.core(), rest),
+        [Layer::Array(_), rest @ ..] => size_of_parts(structs, kind.core(), rest),
+    }
+}
+
 /// Whether what a pointer points to, or an array has as elements, has a size within the limits.
 pub fn is_inner_sized(structs: &[StructInfo], kind: &Type) -> bool
     ensures { result ≡ spec.is_sized structs.now (inner_of kind.now) }
 {
-    match kind.layers() {
-        [] => core_size(structs, kind.core()).is_some(),
-        [Layer::Pointer, rest @ ..] => size_of_parts(structs, kind.core(), rest).is_some(),
-        [Layer::Array(_), rest @ ..] => size_of_parts(structs, kind.core(), rest).is_some(),
-    }
+    inner_size(structs, kind).is_some()
 }
 
 fn size_of_parts(structs: &[StructInfo], core: Core, layers: &[Layer]) -> Option<u64>

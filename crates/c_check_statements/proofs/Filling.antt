@@ -8,7 +8,7 @@ use Rattle.c_check_typing.specs.declared.typed.Typed.{Typed}
 use Rattle.c_check_typing.specs.declared.typed.Notes.{Notes}
 use Rattle.c_check_typing.specs.declared.fault.CheckFault.{CheckFault}
 use Rattle.c_check_typing.specs.declared.fault.CheckFault.TheVariants.{Refused, OutOfMemory}
-use Rattle.c_check_typing.specs.Notes.{Seen, first_literals, unevaluated, Reads}
+use Rattle.c_check_typing.specs.Notes.{Seen, first_evaluated, unevaluated, Reads}
 use Rattle.c_check_statements.specs.declared.initialisers.Filled.{Filled}
 use Rattle.c_check_statements.specs.declared.state.State.{State}
 use Rattle.c_check_statements.specs.Initialisers.{filling, fills_target, fills_known, filling_walk, kept_texts, notes_word, fills, part, part_of, part_walk, parts}
@@ -18,17 +18,17 @@ use Rattle.c_check_statements.proofs.Steps.{next_of, then_go, then_stops}
 -- ---- one expression
 
 filled_by : (state : State) (s : Seen) (b : Bool) {new : Notes} {t : Typed} → Reads s state.notes (Ok t) new
-    → ReadsValue (Some t) (past (filling b s) state) (Ok t) (record state { notes = kept_texts b (length state.notes.literals) new })
+    → ReadsValue (Some t) (past (filling b s) state) (Ok t) (record state { notes = kept_texts b (length state.notes.literals) (length state.notes.used) new })
 unfolding past unevaluated
-filled_by state s true h = record { is = (h.is.0, refl, ap (λ (n : Notes). let m : State = record state { notes = first_literals (length state.notes.literals) n } in m) h.is.2) }
+filled_by state s true h = record { is = (h.is.0, refl, ap (λ (n : Notes). let m : State = record state { notes = first_evaluated (length state.notes.literals) (length state.notes.used) n } in m) h.is.2) }
 filled_by state s false h = record { is = (h.is.0, refl, ap (λ (n : Notes). let m : State = record state { notes = n } in m) h.is.2) }
 
-pub filling_ends : (state : State) (x : Expr) (target : Option CType) (b : Bool) {count : ℕ} {new last : Notes} {t : Typed} → Reads (seen_in state x) state.notes (Ok t) new → b ≡ fills_known target t.text
-    → count ≡ length state.notes.literals → last ≡ kept_texts b count new → ReadsValue (seen_in state x).typed (filling_walk target x state) (Ok t) (record state { notes = last })
-filling_ends state x target b {new = new} {last = last} {t = t} h e n k =
-    subst (λ (n : Notes). ReadsValue (seen_in state x).typed (filling_walk target x state) (Ok t) (record state { notes = n })) (sym (k ∙ ap (λ (i : ℕ). kept_texts b i new) n))
-    (subst (λ (y : Option Typed). ReadsValue y (past (filling (fills_target target y) (seen_in state x)) state) (Ok t) (record state { notes = kept_texts b (length state.notes.literals) new })) (sym h.is.1)
-    (subst (λ (c : Bool). ReadsValue (Some t) (past (filling c (seen_in state x)) state) (Ok t) (record state { notes = kept_texts b (length state.notes.literals) new })) e (filled_by state (seen_in state x) b h)))
+pub filling_ends : (state : State) (x : Expr) (target : Option CType) (b : Bool) {count uses : ℕ} {new last : Notes} {t : Typed} → Reads (seen_in state x) state.notes (Ok t) new → b ≡ fills_known target t.text
+    → count ≡ length state.notes.literals → uses ≡ length state.notes.used → last ≡ kept_texts b count uses new → ReadsValue (seen_in state x).typed (filling_walk target x state) (Ok t) (record state { notes = last })
+filling_ends state x target b {uses = uses} {new = new} {last = last} {t = t} h e n u k =
+    subst (λ (n : Notes). ReadsValue (seen_in state x).typed (filling_walk target x state) (Ok t) (record state { notes = n })) (sym (k ∙ (ap (λ (i : ℕ). kept_texts b i uses new) n ∙ ap (λ (i : ℕ). kept_texts b (length state.notes.literals) i new) u)))
+    (subst (λ (y : Option Typed). ReadsValue y (past (filling (fills_target target y) (seen_in state x)) state) (Ok t) (record state { notes = kept_texts b (length state.notes.literals) (length state.notes.used) new })) (sym h.is.1)
+    (subst (λ (c : Bool). ReadsValue (Some t) (past (filling c (seen_in state x)) state) (Ok t) (record state { notes = kept_texts b (length state.notes.literals) (length state.notes.used) new })) e (filled_by state (seen_in state x) b h)))
 
 stops_by : (state : State) (s : Seen) (b : Bool) (y : Option Typed) {old new : Notes} {last : State} (f : CheckFault) → Reads s old (Err f) new → ReadsValue y (past (filling b s) state) (Err f) last
 unfolding past unevaluated

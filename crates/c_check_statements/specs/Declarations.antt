@@ -219,11 +219,17 @@ number_in count (Some at) = numbered at
 abbrev pub global_number : List ℕ → Scope → ℕ
 global_number name scope = number_in (length scope.variables) (variable_at scope name)
 
+-- the first declaration of a name stands behind those of others
+abbrev pub with_first : (known : Option ℕ) → Bind → List Bind → List Bind
+with_first None bind order = order ++ bind ∷ []
+with_first (Some at) bind order = order
+
 abbrev pub with_variable : List ℕ → (defined : Bool) → CType → State → State
 with_variable name defined kind state = record state {
   scope = record state.scope { variables = put_variable state.scope.variables (variable_at state.scope name) record { name = name; kind = kind; defined = defined } };
   notes = noted (b.Global (global_number name state.scope)) kind state.notes;
   global_items = state.global_items ++ global_number name state.scope ∷ [];
+  order = with_first (variable_at state.scope name) (b.Global (global_number name state.scope)) state.order;
 }
 
 -- a global of the name `main` is BadType
@@ -279,6 +285,7 @@ abbrev pub with_function : List ℕ → List Decl → (defined : Bool) → CType
 with_function name params defined result state = record state {
   scope = record state.scope { functions = put_function state.scope.functions (function_at state.scope name) record { name = name; result = result; params = or_none (param_kinds state.scope params); defined = defined } };
   notes = noted (b.Fun (function_number name state.scope)) result state.notes;
+  order = with_first (function_at state.scope name) (b.Fun (function_number name state.scope)) state.order;
 }
 
 abbrev pub function_declared : (defined : Bool) → List Decl → Decl → State → Declared

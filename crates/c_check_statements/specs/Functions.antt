@@ -6,7 +6,7 @@ use Rattle.c_tree.specs.declared.tree.Base.{Base}
 use Rattle.c_tree.specs.declared.tree.Base.TheVariants as b
 use Rattle.c_tree.specs.declared.tree.Decl.{Decl}
 use Rattle.c_tree.specs.declared.tree.Stmt.{Stmt}
-use Rattle.c_types.specs.Types.{CType, Void}
+use Rattle.c_types.specs.Types.{CType}
 use Rattle.c_check_rules.specs.Kinds.{same_integers}
 use Rattle.c_check_typing.specs.declared.fault.CheckKind.{CheckKind}
 use Rattle.c_check_typing.specs.declared.fault.CheckKind.TheVariants.{BadType, ManyParams, ManyPointers, FrameLarge}
@@ -61,14 +61,10 @@ ends_function d params body place state = at_node place (function_kinds d params
 
 -- ---- functions
 
-abbrev pub or_void : Option CType → CType
-or_void None = Void
-or_void (Some kind) = kind
-
--- a function begins without names of its own, and gives this
+-- a function begins without names of its own, and gives this, if it is known
 abbrev pub enter_function : Option CType → State → State
 enter_function result state = record state {
-  scope = record state.scope { locals = []; from = 0; made = []; result = or_void result; in_loop = false; at_body = true };
+  scope = record state.scope { locals = []; from = 0; made = []; result = result; in_loop = false; at_body = true };
   notes = record state.notes { taken = [] };
 }
 
@@ -80,7 +76,7 @@ with_body number (Some body) state = record state { bodies = state.bodies ++ rec
 -- behind a function its names are gone
 abbrev pub without_names : State → State
 without_names state = record state {
-  scope = record state.scope { locals = []; from = 0; made = []; result = Void; in_loop = false; at_body = false };
+  scope = record state.scope { locals = []; from = 0; made = []; result = None; in_loop = false; at_body = false };
   notes = record state.notes { taken = [] };
 }
 

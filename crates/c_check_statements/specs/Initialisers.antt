@@ -24,7 +24,7 @@ use Rattle.c_check_typing.specs.declared.typed.Notes.{Notes}
 use Rattle.c_check_typing.specs.declared.fault.CheckKind.{CheckKind}
 use Rattle.c_check_typing.specs.declared.fault.CheckKind.TheVariants.{NotConst, NotPlace, BadType}
 use Rattle.c_check_typing.specs.Refusals.{breaks}
-use Rattle.c_check_typing.specs.Notes.{Seen, unevaluated, first_literals, with_constant}
+use Rattle.c_check_typing.specs.Notes.{Seen, unevaluated, first_evaluated, with_constant}
 use Rattle.c_check_typing.specs.Rules.{decayed, is_no_source, members_in}
 use Rattle.c_check_statements.specs.declared.initialisers.Filled.{Filled}
 use Rattle.c_check_statements.specs.declared.initialisers.Filled.TheVariants as f
@@ -96,11 +96,15 @@ abbrev pub value_kinds : Filled → CType → Typed → List CheckKind
 value_kinds filled kind t = breaks NotConst (needs_constant filled (outer_of kind) && open_constant t.constant) ++ (breaks NotPlace (is_no_source t)
     ++ breaks BadType (not (takes_form filled (outer_of kind) kind t)))
 
--- where the type that is filled isn't known, or nothing is known of the value, no rule is judged
+abbrev pub known_kinds : Filled → (target : Option CType) → Typed → List CheckKind
+known_kinds filled None t = breaks NotPlace (is_no_source t)
+known_kinds filled (Some kind) t = value_kinds filled kind t
+
+-- where nothing is known of the value, no rule is judged; where there is nothing that it fills, or the type of that isn't known, only that a struct
+-- is a place
 abbrev pub one_kinds : Filled → (target : Option CType) → Option Typed → List CheckKind
-one_kinds filled None t = []
-one_kinds filled (Some kind) None = []
-one_kinds filled (Some kind) (Some t) = value_kinds filled kind t
+one_kinds filled target None = []
+one_kinds filled target (Some t) = known_kinds filled target t
 
 abbrev pub text_of : Option Typed → Option ℕ
 text_of None = None
@@ -118,10 +122,10 @@ abbrev pub filling : (fills : Bool) → Seen → Seen
 filling true x = unevaluated x
 filling false x = x
 
--- so only the literals before it stay, of this many bytes
-abbrev pub kept_texts : (fills : Bool) → (count : ℕ) → Notes → Notes
-kept_texts true count notes = first_literals count notes
-kept_texts false count notes = notes
+-- so only the literals before it stay, of this many bytes, and what was used before it
+abbrev pub kept_texts : (fills : Bool) → (literals used : ℕ) → Notes → Notes
+kept_texts true literals used notes = first_evaluated literals used notes
+kept_texts false literals used notes = notes
 
 -- ---- the words of globals
 

@@ -1,12 +1,11 @@
 -- A whole source: its structs, global variables and functions from the front on.
-use Rattle.std.specs.Prelude.{Bool, false, not, ◌||◌, is_some, List, [], map, Option}
+use Rattle.std.specs.Prelude.{Bool, false, not, ◌||◌, is_some, List, [], map, Option, None}
 use Rattle.mx_base.specs.declared.places.Place.{Place}
 use Rattle.c_tree.specs.declared.tree.Decl.{Decl}
 use Rattle.c_tree.specs.declared.tree.Init.{Init}
 use Rattle.c_tree.specs.declared.tree.Item.{Item}
 use Rattle.c_tree.specs.declared.tree.ItemKind.{ItemKind}
 use Rattle.c_tree.specs.declared.tree.ItemKind.TheVariants as k
-use Rattle.c_types.specs.Types.{Void}
 use Rattle.c_check_typing.specs.Notes.{no_notes}
 use Rattle.c_check_statements.specs.declared.initialisers.Filled.TheVariants as f
 use Rattle.c_check_statements.specs.declared.state.State.{State}
@@ -37,8 +36,9 @@ items all = walk_all (map item all)
 -- nothing is declared before a source
 abbrev pub at_start : State
 at_start = record {
-  scope = record { structs = []; variables = []; functions = []; locals = []; from = 0; made = []; result = Void; in_loop = false; at_body = false };
+  scope = record { structs = []; variables = []; functions = []; locals = []; from = 0; made = []; result = None; in_loop = false; at_body = false };
   notes = no_notes;
   bodies = [];
   global_items = [];
+  order = [];
 }

@@ -33,14 +33,20 @@ abbrev pub seen_test : State → Option Expr → Option Typed
 seen_test state None = None
 seen_test state (Some x) = (seen_in state x).typed
 
--- `return` has a value exactly where the function has a result that isn't `void`, and the value converts to it
-abbrev pub returned_kinds : CType → Typed → List CheckKind
-returned_kinds result t = breaks BadType (not (converts result (decayed t.kind) t.is_zero))
+-- `return` has a value exactly where the function has a result that isn't `void`, and the value converts to it; where that result isn't known, or
+-- nothing is known of the value, no rule is judged
+abbrev pub none_returned : Option CType → List CheckKind
+none_returned None = []
+none_returned (Some result) = breaks BadType (not (is_void result))
 
-abbrev pub return_kinds : CType → Option Expr → Option Typed → List CheckKind
-return_kinds result None t = breaks BadType (not (is_void result))
+abbrev pub value_returned : Option CType → Typed → List CheckKind
+value_returned None t = []
+value_returned (Some result) t = breaks BadType (not (converts result (decayed t.kind) t.is_zero))
+
+abbrev pub return_kinds : Option CType → Option Expr → Option Typed → List CheckKind
+return_kinds result None t = none_returned result
 return_kinds result (Some x) None = []
-return_kinds result (Some x) (Some t) = returned_kinds result t
+return_kinds result (Some x) (Some t) = value_returned result t
 
 -- an array or struct of more than 64 scalars is not initialised
 abbrev pub is_large : List StructInfo → CType → Bool

@@ -156,6 +156,16 @@ fn note_declared(
     Ok(())
 }
 
+/// Notes a name that is declared for the first time.
+fn note_first(order: &mut Items<Bind>, known: Option<usize>, bind: Bind) -> Result<(), OutOfMemory>
+    ensures { OnOk result (order.new ≡ spec.with_first known bind order.old) }
+{
+    if known.is_none() {
+        order.push(bind)?;
+    }
+    Ok(())
+}
+
 /// A place as a number of 32 bits.
 pub fn number_of(at: usize) -> u32
     ensures { result ≡ numbered at }
@@ -338,6 +348,7 @@ fn add_variable(
         },
     )?;
     state.global_items.push(number)?;
+    note_first(&mut state.order, found, Bind::Global(number))?;
     note_declared(alloc, &mut state.notes, Bind::Global(number), kind)
 }
 
@@ -516,6 +527,7 @@ fn add_function(
             defined,
         },
     )?;
+    note_first(&mut state.order, found, Bind::Fun(number))?;
     note_declared(alloc, &mut state.notes, Bind::Fun(number), kind)
 }
 

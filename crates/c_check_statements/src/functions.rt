@@ -123,7 +123,7 @@ fn enter_function(alloc: Global, state: &mut State, kind: Type)
     state.scope.locals = NamedItems::new(alloc);
     state.scope.from = 0;
     state.scope.made = Items::new(alloc);
-    state.scope.result = kind;
+    state.scope.result = Some(kind);
     state.scope.in_loop = false;
     state.scope.at_body = true;
     state.notes.taken = Items::new(alloc);
@@ -155,7 +155,7 @@ fn leave_function(alloc: Global, state: &mut State)
     state.scope.locals = NamedItems::new(alloc);
     state.scope.from = 0;
     state.scope.made = Items::new(alloc);
-    state.scope.result = Type::void(alloc);
+    state.scope.result = None;
     state.scope.in_loop = false;
     state.scope.at_body = false;
     state.notes.taken = Items::new(alloc);

@@ -7,7 +7,7 @@ ghost use Rattle.c_check_statements.specs.Initialisers as spec;
 ghost use Rattle.c_check_statements.specs.Walks.{Walks, Judges, ReadsValue, seen_in};
 
 use crate::counts::open_constant;
-use crate::reading::refused;
+use crate::reading::{refused, refused_if};
 use crate::state::State;
 use c_check_expressions::read_expr;
 use c_check_rules::{
@@ -133,7 +133,7 @@ fn judge_one(
 {
     match target {
         Some(kind) => judge_value(alloc, filled, place, kind, t),
-        None => Ok(()),
+        None => refused_if(is_no_source(t), place, CheckKind::NotPlace),
     }
 }
 
@@ -295,12 +295,13 @@ fn part(filled: Filled) -> Filled
 
 // ---- initialisers
 
-/// Keeps the literals before a text that fills an array, of so many bytes.
-fn keep_texts(notes: &mut Notes, count: usize, fills: bool)
-    ensures { notes.new ≡ spec.kept_texts fills count notes.old }
+/// Keeps the literals before a text that fills an array, of so many bytes, and so many uses.
+fn keep_texts(notes: &mut Notes, literals: usize, used: usize, fills: bool)
+    ensures { notes.new ≡ spec.kept_texts fills literals used notes.old }
 {
     if fills {
-        notes.literals.truncate(count);
+        notes.literals.truncate(literals);
+        notes.used.truncate(used);
     }
 }
 
@@ -313,10 +314,11 @@ fn read_filling(
 ) -> Result<Typed, CheckFault>
     ensures { ReadsValue ((seen_in state.old expr.now).typed) (spec.filling_walk (option_copied target.entry) expr.now state.old) result state.new }
 {
-    let count = state.notes.literals.len();
+    let literals = state.notes.literals.len();
+    let used = state.notes.used.len();
     let t = read_expr(alloc, &state.scope, &mut state.notes, false, expr)?;
     let fills = fills_target(target, t.text);
-    keep_texts(&mut state.notes, count, fills);
+    keep_texts(&mut state.notes, literals, used, fills);
     Ok(t)
 }
 

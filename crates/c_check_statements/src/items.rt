@@ -9,8 +9,8 @@ use crate::functions::read_function;
 use crate::initialisers::{Filled, read_maybe_init};
 use crate::state::State;
 use crate::structs::read_struct;
-use c_check_rules::{NamedItems, Scope, Type};
-use c_check_typing::{CheckFault, Literals, Notes};
+use c_check_rules::{NamedItems, Scope};
+use c_check_typing::{CheckFault, Literals, Notes, Uses};
 use c_tree::{Decl, Init, Item, ItemKind};
 use sqlite_items::Items;
 use std::alloc::Global;
@@ -73,13 +73,14 @@ pub fn start_state(alloc: Global) -> State
             locals: NamedItems::new(alloc),
             from: 0,
             made: Items::new(alloc),
-            result: Type::void(alloc),
+            result: None,
             in_loop: false,
             at_body: false,
         },
         notes: Notes {
             kinds: Items::new(alloc),
             binds: Items::new(alloc),
+            used: Uses::new(alloc),
             declared: Items::new(alloc),
             taken: Items::new(alloc),
             constants: Items::new(alloc),
@@ -87,5 +88,6 @@ pub fn start_state(alloc: Global) -> State
         },
         bodies: Items::new(alloc),
         global_items: Items::new(alloc),
+        order: Items::new(alloc),
     }
 }

@@ -1,6 +1,6 @@
 //! What is known after a part of a tree.
 
-use c_check_rules::{Scope, Type};
+use c_check_rules::{Bind, Scope, Type};
 use c_check_typing::Notes;
 use sqlite_items::Items;
 
@@ -18,12 +18,13 @@ pub struct Body {
     pub variables: Items<BodyVariable>,
 }
 
-/// What is known after a part of a tree: the names, the notes, the functions with a body in order, and the number of the global that each
-/// declaration of one declares, in order.
+/// What is known after a part of a tree: the names, the notes, the functions with a body in order, the number of the global that each declaration
+/// of one declares, in order, and the globals and functions in the order of their first declarations.
 #[derive(Drop)]
 pub struct State {
     pub scope: Scope,
     pub notes: Notes,
     pub bodies: Items<Body>,
     pub global_items: Items<u32>,
+    pub order: Items<Bind>,
 }

@@ -29,15 +29,34 @@ fn judge_test(alloc: Global, place: Place, t: &Typed) -> Result<(), CheckFault>
     refused_if(!is_scalar(&kind), place, CheckKind::BadType)
 }
 
-fn judge_return(alloc: Global, place: Place, wanted: &Type, t: &Typed) -> Result<(), CheckFault>
-    ensures { Judges (spec.returned_kinds wanted.now t.now) place result }
+/// A value that a function gives converts to its result, where that is known.
+fn judge_value(
+    alloc: Global,
+    place: Place,
+    wanted: &Option<Type>,
+    t: &Typed,
+) -> Result<(), CheckFault>
+    ensures { Judges (spec.value_returned wanted.now t.now) place result }
 {
+    let Some(wanted) = wanted else {
+        return Ok(());
+    };
     let kind = t.decayed(alloc)?;
     refused_if(
         !converts(wanted, &kind, t.is_zero),
         place,
         CheckKind::BadType,
     )
+}
+
+/// A function without a value to give has no result, where that is known.
+fn judge_no_value(place: Place, wanted: &Option<Type>) -> Result<(), CheckFault>
+    ensures { Judges (spec.none_returned wanted.now) place result }
+{
+    match wanted {
+        Some(wanted) => refused_if(!is_void(wanted), place, CheckKind::BadType),
+        None => Ok(()),
+    }
 }
 
 fn read_return(
@@ -51,9 +70,9 @@ fn read_return(
     match value {
         Some(expr) => {
             let t = read_value(alloc, state, expr)?;
-            judge_return(alloc, place, &state.scope.result, &t)
+            judge_value(alloc, place, &state.scope.result, &t)
         }
-        None => refused_if(!is_void(&state.scope.result), place, CheckKind::BadType),
+        None => judge_no_value(place, &state.scope.result),
     }
 }
 

@@ -41,7 +41,7 @@ scope = record {
   locals = record { name = codes "x"; kind = Int I32; number = 0 } ∷ record { name = codes "p"; kind = Pointer (Int I8); number = 1 } ∷ record { name = codes "s"; kind = Struct 0; number = 2 } ∷ [];
   from = 0;
   made = [];
-  result = Void;
+  result = None;
   in_loop = false;
   at_body = false;
 }

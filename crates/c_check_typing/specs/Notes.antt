@@ -1,7 +1,7 @@
 -- What is seen of an expression: its type and what else is known of its value, what it adds to the notes on the tree, and the rules that are
 -- broken in it. Notes have the type of each expression, the meaning of each name and the type of each
--- declaration, in tree order: children before their parent, from left to right; the locals that `&` is applied to; the words of the constants of
--- globals; and the bytes of the literals.
+-- declaration, in tree order: children before their parent, from left to right; what the names outside of `sizeof` mean; the locals that `&` is
+-- applied to; the words of the constants of globals; and the bytes of the literals.
 use Rattle.std.specs.Prelude.{◌≡◌, ℕ, true, false, List, [], ◌∷◌, ◌++◌, length, take, Option, None, Some, Result, Ok, Err}
 use Rattle.mx_base.specs.declared.places.Place.{Place}
 use Rattle.c_types.specs.Types.{CType}
@@ -29,13 +29,17 @@ place kind = record (value kind c.No) { is_place = true }
 -- ---- notes
 
 abbrev pub no_notes : Notes
-no_notes = record { kinds = []; binds = []; declared = []; taken = []; constants = []; literals = [] }
+no_notes = record { kinds = []; binds = []; used = []; declared = []; taken = []; constants = []; literals = [] }
 
 abbrev pub with_kind : CType → Notes → Notes
 with_kind kind notes = record notes { kinds = notes.kinds ++ kind ∷ [] }
 
 abbrev pub with_bind : Bind → Notes → Notes
 with_bind bind notes = record notes { binds = notes.binds ++ bind ∷ [] }
+
+-- a name in an expression
+abbrev pub with_use : Bind → Notes → Notes
+with_use bind notes = record notes { binds = notes.binds ++ bind ∷ []; used = notes.used ++ bind ∷ [] }
 
 abbrev pub with_declared : CType → Notes → Notes
 with_declared kind notes = record notes { declared = notes.declared ++ kind ∷ [] }
@@ -54,9 +58,9 @@ with_constant (Some word) notes = record notes { constants = notes.constants ++ 
 abbrev pub with_text : List ℕ → Notes → Notes
 with_text bytes notes = record notes { literals = notes.literals ++ (bytes ++ 0 ∷ []) }
 
--- of the bytes of literals the first alone
-abbrev pub first_literals : (count : ℕ) → Notes → Notes
-first_literals count notes = record notes { literals = take count notes.literals }
+-- of the bytes of literals and of what is used the first alone
+abbrev pub first_evaluated : (literals used : ℕ) → Notes → Notes
+first_evaluated literals used notes = record notes { literals = take literals notes.literals; used = take used notes.used }
 
 abbrev pub unchanged : Notes → Notes
 unchanged notes = notes
@@ -102,10 +106,10 @@ pub record Seen : Type 0 where
 abbrev pub node : Place → List Broken → (Notes → Notes) → Own → Seen
 node place broken after own = record { typed = own.typed; after = λ notes. own.noted (after notes); broken = broken ++ all_at place own.broken }
 
--- what stands under `sizeof`, and a text that initialises an array of `char`, is not evaluated: its texts are no literals, and only those that were
--- noted before it stay
+-- what stands under `sizeof`, and a text that initialises an array of `char`, is not evaluated: its texts are no literals, its names are not used,
+-- and only those that were noted before it stay
 unfoldable pub unevaluated : Seen → Seen
-unevaluated a = record a { after = λ notes. first_literals (length notes.literals) (a.after notes) }
+unevaluated a = record a { after = λ notes. first_evaluated (length notes.literals) (length notes.used) (a.after notes) }
 
 -- a node without parts, and with one, two or three of them
 unfoldable pub leaf : Place → Own → Seen

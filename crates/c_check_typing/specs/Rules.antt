@@ -2,7 +2,7 @@
 -- breaks several rules, they are listed in the order of their kinds.
 use Rattle.std.specs.Prelude.{ℕ, zero, suc, ◌+◌, ◌==◌, nat_lt, Bool, true, false, not, ◌&&◌, ◌||◌, if◌then◌else◌, is_some, List, [], ◌∷◌, ◌++◌, length, Option, None, Some, slice_get}
 use Rattle.mx_base.specs.declared.numbers.IntKind.{IntKind}
-use Rattle.mx_base.specs.declared.numbers.IntKind.TheVariants.{I8, I32, U64}
+use Rattle.mx_base.specs.declared.numbers.IntKind.TheVariants.{I8, I32, I64, U64}
 use Rattle.c_tree.specs.declared.tree.Base.{Base}
 use Rattle.c_tree.specs.declared.tree.Base.TheVariants as b
 use Rattle.c_types.specs.Types.{CType, Void, Int, Pointer, Array, Struct}
@@ -26,7 +26,7 @@ use Rattle.c_check_typing.specs.declared.typed.Typed.{Typed}
 use Rattle.c_check_typing.specs.declared.fault.CheckKind.{CheckKind}
 use Rattle.c_check_typing.specs.declared.fault.CheckKind.TheVariants.{Unknown, BadType, BadCount, NotPlace, LargeCopy}
 use Rattle.c_check_typing.specs.Refusals.{breaks}
-use Rattle.c_check_typing.specs.Notes.{value, place, with_kind, with_bind, with_taken, with_text, Own, fine, wrong, nothing, judged, with_typed}
+use Rattle.c_check_typing.specs.Notes.{value, place, with_kind, with_use, with_taken, with_text, Own, fine, wrong, nothing, judged, with_typed}
 
 -- ---- types of values
 
@@ -96,7 +96,7 @@ local_of (d.Service number) = None
 local_of (d.Builtin number) = None
 
 abbrev pub named : Bind → Typed → Own
-named bind t = record { typed = Some t; noted = λ notes. with_kind t.kind (with_bind bind notes); broken = [] }
+named bind t = record { typed = Some t; noted = λ notes. with_kind t.kind (with_use bind notes); broken = [] }
 
 abbrev pub variable : Bind → CType → Typed
 variable bind kind = record (place kind) { local = local_of bind }
@@ -127,11 +127,11 @@ sign_own op o.Pointer constant = wrong (BadType ∷ [])
 sign_own op (o.Array count) constant = wrong (BadType ∷ [])
 sign_own op (o.Struct number) constant = wrong (BadType ∷ [])
 
--- an operator over a pointer is no constant
+-- a pointer is taken as its address
 abbrev pub not_constant : Outer → Constant → Constant
 not_constant o.Void constant = c.No
 not_constant (o.Int k) constant = fold_unary 2 k constant
-not_constant o.Pointer constant = c.No
+not_constant o.Pointer constant = fold_unary 2 U64 constant
 not_constant (o.Array count) constant = c.No
 not_constant (o.Struct number) constant = c.No
 
@@ -158,24 +158,58 @@ unary_own structs op a = if op == 4 then address_own a else if op == 3 then targ
 abbrev pub done_in : ℕ → IntKind → IntKind → IntKind
 done_in op k l = if nat_lt 4 op && nat_lt op 7 then promoted k else common k l
 
-abbrev pub binary_constant : ℕ → Outer → Outer → Constant → Constant → Constant
-binary_constant op (o.Int k) (o.Int l) x y = fold_binary op (done_in op k l) x y
-binary_constant op _ _ x y = c.No
+-- the size of what a pointer points to
+abbrev pub or_nothing : Option ℕ → ℕ
+or_nothing None = 0
+or_nothing (Some size) = size
+
+abbrev pub target_size : List StructInfo → CType → ℕ
+target_size structs pointer = or_nothing (size_in structs (inner_of pointer))
+
+-- so many targets of a pointer, in bytes
+abbrev pub scaled : List StructInfo → (pointer : CType) → Constant → Constant
+scaled structs pointer by = fold_binary 0 U64 by (c.Value (target_size structs pointer))
+
+-- `+` and `-` of a pointer and an integer; the other operators take the integer as it is
+abbrev pub moved_constant : List StructInfo → ℕ → (pointer : CType) → (p by : Constant) → Constant
+moved_constant structs op pointer p by = fold_binary op U64 p (if op == 3 || op == 4 then scaled structs pointer by else by)
+
+abbrev pub added_constant : List StructInfo → ℕ → (pointer : CType) → (by p : Constant) → Constant
+added_constant structs op pointer by p = fold_binary op U64 (if op == 3 then scaled structs pointer by else by) p
+
+-- the signed difference of two addresses, divided by the size of what they point to
+abbrev pub apart_constant : List StructInfo → ℕ → (pointer : CType) → (p q : Constant) → Constant
+apart_constant structs op pointer p q = if op == 4 then fold_binary 1 I64 (fold_binary 4 I64 p q) (c.Value (target_size structs pointer)) else fold_binary op U64 p q
+
+-- a pointer is taken as its address
+abbrev pub constant_by : List StructInfo → ℕ → Outer → Outer → (left right : CType) → Constant → Constant → Constant
+constant_by structs op (o.Int k) (o.Int l) left right x y = fold_binary op (done_in op k l) x y
+constant_by structs op (o.Int k) o.Pointer left right x y = added_constant structs op right x y
+constant_by structs op o.Pointer (o.Int l) left right x y = moved_constant structs op left x y
+constant_by structs op o.Pointer o.Pointer left right x y = apart_constant structs op left x y
+constant_by structs op _ _ left right x y = c.No
+
+abbrev pub binary_constant : List StructInfo → ℕ → Typed → Typed → Constant
+binary_constant structs op a e = constant_by structs op (outer_of a.kind) (outer_of e.kind) a.kind e.kind a.constant e.constant
 
 unfoldable pub binary_own : List StructInfo → ℕ → Typed → Typed → Own
 binary_own structs op a e = of_kind (binary_kind structs op (decayed a.kind) (decayed e.kind) a.is_zero e.is_zero)
-    (binary_constant op (outer_of a.kind) (outer_of e.kind) a.constant e.constant)
+    (binary_constant structs op a e)
 
 -- ---- `?:`
 
-abbrev pub choice_constant : Outer → Outer → Outer → Constant → Constant → Constant → Constant
-choice_constant (o.Int j) (o.Int k) (o.Int l) x y z = choose (common k l) x y z
-choice_constant _ _ _ x y z = c.No
+-- the type in which both values are taken; a pointer is taken as its address
+abbrev pub choice_in : Outer → Outer → IntKind
+choice_in (o.Int k) (o.Int l) = common k l
+choice_in _ _ = U64
+
+abbrev pub choice_constant : Typed → Typed → Typed → Constant
+choice_constant test a e = choose (choice_in (outer_of a.kind) (outer_of e.kind)) test.constant a.constant e.constant
 
 -- the condition is a scalar
 unfoldable pub choice_own : Typed → Typed → Typed → Own
 choice_own test a e = if is_scalar (decayed test.kind) then of_kind (choice_kind (decayed a.kind) (decayed e.kind) a.is_zero e.is_zero)
-    (choice_constant (outer_of test.kind) (outer_of a.kind) (outer_of e.kind) test.constant a.constant e.constant) else wrong (BadType ∷ [])
+    (choice_constant test a e) else wrong (BadType ∷ [])
 
 -- ---- assignments
 

@@ -9,6 +9,7 @@ mod literals;
 mod members;
 mod operators;
 mod typed;
+mod uses;
 
 pub use assignments::{end_assign, end_step, is_assigned, is_no_source};
 pub use calls::{argument_fits, end_call, end_name, params_after, params_of, takes_function};
@@ -18,3 +19,4 @@ pub use literals::Literals;
 pub use members::{end_arrow, end_index, end_member};
 pub use operators::{end_binary, end_choice, end_unary};
 pub use typed::{Notes, Typed, end_number, is_array, is_struct};
+pub use uses::Uses;

@@ -8,8 +8,8 @@ ghost use Rattle.c_check_typing.specs.Rules as rule;
 use crate::fault::{CheckFault, CheckKind};
 use crate::typed::{Notes, Typed, end_fine, end_wrong, is_address, place_of, value};
 use c_check_rules::{
-    Constant, Outer, Scope, Type, binary_kind, choice_kind, choose, common, fold_binary,
-    fold_unary, is_inner_sized, is_scalar, promoted,
+    Constant, Outer, Scope, StructInfo, Type, binary_kind, choice_kind, choose, common,
+    fold_binary, fold_unary, inner_size, is_inner_sized, is_scalar, promoted,
 };
 use mx_base::{IntKind, Place};
 use std::alloc::Global;
@@ -57,8 +57,8 @@ fn not_constant(form: Outer, constant: Constant) -> Constant
 {
     match form {
         Outer::Int(k) => fold_unary(2, k, constant),
+        Outer::Pointer => fold_unary(2, IntKind::U64, constant),
         Outer::Void => Constant::No,
-        Outer::Pointer => Constant::No,
         Outer::Array(_) => Constant::No,
         Outer::Struct(_) => Constant::No,
     }
@@ -156,15 +156,92 @@ fn done_in(op: u8, k: IntKind, l: IntKind) -> IntKind
     }
 }
 
-fn binary_constant(op: u8, a: &Typed, b: &Typed) -> Constant
-    ensures { result ≡ rule.binary_constant op (outer_of a.now.kind) (outer_of b.now.kind) a.now.constant b.now.constant }
+/// The size of what a pointer points to.
+fn target_size(structs: &[StructInfo], pointer: &Type) -> u64
+    ensures { result ≡ rule.target_size structs.now pointer.now }
 {
-    match a.kind.outer() {
-        Outer::Int(k) => match b.kind.outer() {
-            Outer::Int(l) => fold_binary(op, done_in(op, k, l), a.constant, b.constant),
-            Outer::Void | Outer::Pointer | Outer::Array(_) | Outer::Struct(_) => Constant::No,
-        },
-        Outer::Void | Outer::Pointer | Outer::Array(_) | Outer::Struct(_) => Constant::No,
+    inner_size(structs, pointer).unwrap_or(0)
+}
+
+/// So many targets of a pointer, in bytes.
+fn scaled(structs: &[StructInfo], pointer: &Type, by: Constant) -> Constant
+    ensures { result ≡ rule.scaled structs.now pointer.now by }
+{
+    let size = Constant::Value(target_size(structs, pointer));
+    fold_binary(0, IntKind::U64, by, size)
+}
+
+/// An operator of a pointer and an integer.
+fn moved_constant(
+    structs: &[StructInfo],
+    op: u8,
+    pointer: &Type,
+    p: Constant,
+    by: Constant,
+) -> Constant
+    ensures { result ≡ rule.moved_constant structs.now op pointer.now p by }
+{
+    let by = if op == 3 || op == 4 {
+        scaled(structs, pointer, by)
+    } else {
+        by
+    };
+    fold_binary(op, IntKind::U64, p, by)
+}
+
+/// An operator of an integer and a pointer.
+fn added_constant(
+    structs: &[StructInfo],
+    op: u8,
+    pointer: &Type,
+    by: Constant,
+    p: Constant,
+) -> Constant
+    ensures { result ≡ rule.added_constant structs.now op pointer.now by p }
+{
+    let by = if op == 3 {
+        scaled(structs, pointer, by)
+    } else {
+        by
+    };
+    fold_binary(op, IntKind::U64, by, p)
+}
+
+/// An operator of two pointers.
+fn apart_constant(
+    structs: &[StructInfo],
+    op: u8,
+    pointer: &Type,
+    p: Constant,
+    q: Constant,
+) -> Constant
+    ensures { result ≡ rule.apart_constant structs.now op pointer.now p q }
+{
+    if op == 4 {
+        let size = Constant::Value(target_size(structs, pointer));
+        fold_binary(1, IntKind::I64, fold_binary(4, IntKind::I64, p, q), size)
+    } else {
+        fold_binary(op, IntKind::U64, p, q)
+    }
+}
+
+fn binary_constant(structs: &[StructInfo], op: u8, a: &Typed, b: &Typed) -> Constant
+    ensures { result ≡ rule.binary_constant structs.now op a.now b.now }
+{
+    match (a.kind.outer(), b.kind.outer()) {
+        (Outer::Int(k), Outer::Int(l)) => {
+            fold_binary(op, done_in(op, k, l), a.constant, b.constant)
+        }
+        (Outer::Int(_), Outer::Pointer) => {
+            added_constant(structs, op, &b.kind, a.constant, b.constant)
+        }
+        (Outer::Pointer, Outer::Int(_)) => {
+            moved_constant(structs, op, &a.kind, a.constant, b.constant)
+        }
+        (Outer::Pointer, Outer::Pointer) => {
+            apart_constant(structs, op, &a.kind, a.constant, b.constant)
+        }
+        _ => Constant::No,
     }
 }
 
@@ -185,22 +262,25 @@ pub fn end_binary(
     let right = b.decayed(alloc)?;
     let zeros = (a.is_zero, b.is_zero);
     let kind = binary_kind(alloc, scope.structs.as_slice(), op, &left, &right, zeros)?;
-    end_of_kind(alloc, notes, place, kind, binary_constant(op, &a, &b))
+    let constant = binary_constant(scope.structs.as_slice(), op, &a, &b);
+    end_of_kind(alloc, notes, place, kind, constant)
+}
+
+/// The type in which both values of `?:` are taken, a pointer as its address.
+fn choice_in(a: Outer, b: Outer) -> IntKind
+    ensures { result ≡ rule.choice_in a b }
+{
+    match (a, b) {
+        (Outer::Int(k), Outer::Int(l)) => common(k, l),
+        _ => IntKind::U64,
+    }
 }
 
 fn choice_constant(test: &Typed, a: &Typed, b: &Typed) -> Constant
-    ensures { result ≡ rule.choice_constant (outer_of test.now.kind) (outer_of a.now.kind) (outer_of b.now.kind) test.now.constant a.now.constant b.now.constant }
+    ensures { result ≡ rule.choice_constant test.now a.now b.now }
 {
-    let Outer::Int(_) = test.kind.outer() else {
-        return Constant::No;
-    };
-    let Outer::Int(k) = a.kind.outer() else {
-        return Constant::No;
-    };
-    let Outer::Int(l) = b.kind.outer() else {
-        return Constant::No;
-    };
-    choose(common(k, l), test.constant, a.constant, b.constant)
+    let kind = choice_in(a.kind.outer(), b.kind.outer());
+    choose(kind, test.constant, a.constant, b.constant)
 }
 
 /// Ends `?:`.

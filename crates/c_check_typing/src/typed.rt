@@ -8,6 +8,7 @@ ghost use Rattle.c_check_typing.specs.Rules as rule;
 
 use crate::fault::{CheckFault, CheckKind};
 use crate::literals::Literals;
+use crate::uses::Uses;
 use c_check_rules::{Bind, Constant, Outer, Type};
 use mx_base::{IntKind, OutOfMemory, Place};
 use sqlite_items::Items;
@@ -35,6 +36,8 @@ pub struct Notes {
     pub kinds: Items<Type>,
     /// What each name is bound to that stands in an expression, or is declared as a variable or function.
     pub binds: Items<Bind>,
+    /// What the names are bound to that stand in an expression outside of `sizeof`.
+    pub used: Uses,
     /// The type of each declaration.
     pub declared: Items<Type>,
     /// The numbers of the parameters and locals of the function to which `&` is applied.
@@ -155,6 +158,7 @@ pub fn end_named(
 {
     let kind = t.kind.copy(alloc)?;
     notes.binds.push(bind)?;
+    notes.used.push(bind)?;
     notes.kinds.push(kind)?;
     Ok(t)
 }

@@ -30,7 +30,3 @@ returns-clause-long c = search (rules, expr_lemmas, init_lemmas, stmt_lemmas)
 pub returns-clause-accepted : goal.returns-clause-accepted
 unfolding found_in unevaluated leaf one two text_own name_own unary_own binary_own index_own size_own call_own call ◌then◌ at_node inside past declares and_then digits
 returns-clause-accepted c = (search (rules, expr_lemmas, init_lemmas, stmt_lemmas), search (rules, expr_lemmas, init_lemmas, stmt_lemmas), search (rules, expr_lemmas, init_lemmas, stmt_lemmas), search (rules, expr_lemmas, init_lemmas, stmt_lemmas))
-
-pub returns-clause-along : goal.returns-clause-along
-unfolding found_in unevaluated leaf one two text_own name_own unary_own binary_own index_own size_own call_own call ◌then◌ at_node inside past declares and_then digits
-returns-clause-along c = (search (rules, expr_lemmas, init_lemmas, stmt_lemmas), search (rules, expr_lemmas, init_lemmas, stmt_lemmas), search (rules, expr_lemmas, init_lemmas, stmt_lemmas), search (rules, expr_lemmas, init_lemmas, stmt_lemmas))

@@ -48,8 +48,8 @@ number_bodies-requires-clause-built c =
     (begun-with c.as_slice.result.now structs c.in_ok-types.types c.as_slice.ensures c.in_ok-types.ensures.structs c.in_ok-types.ensures.begun c.in_ok-types.ensures.members))) in
     bodies-have-numbers structs c.number_globals.new.table begun c.requires.structs c.as_slice-6.result.now c.args.state.now.bodies c.as_slice-6.ensures c.requires.bodies
 
-pub returns : goal.returns
-returns c =
+pub returns-clause-says : goal.returns-clause-says
+returns-clause-says c =
     let structs = c.args.state.now.scope.structs in
     let begun = begun-more structs c.number_globals.new.table c.number_bodies.new.table c.in_ok-bodies.ensures.grows
     (begun-more structs c.number_types-2.new.table c.number_globals.new.table c.in_ok-variables.ensures.grows
@@ -58,7 +58,7 @@ returns c =
     (begun-with c.as_slice.result.now structs c.in_ok-types.types c.as_slice.ensures c.in_ok-types.ensures.structs c.in_ok-types.ensures.begun c.in_ok-types.ensures.members)))) in
     says c.args.state.now c.in_ok-types.types c.number_types.new.table c.number_types-2.new.table c.number_globals.new.table c.number_bodies.new.table
     c.in_ok-kinds.kinds c.in_ok-binds.binds c.in_ok-declared.declared c.in_ok-variables.variables c.in_ok-bodies.bodies
-    c.number_structs.new.known c.in_ok-global_items.global_items c.in_ok-constants.constants c.in_ok-literals.literals
+    c.number_structs.new.known c.in_ok-global_items.global_items c.in_ok-constants.constants c.in_ok-literals.literals c.args.symbols
     begun c.in_ok-kinds.ensures.grows (subst (AreStructs c.in_ok-types.types c.number_structs.new.known) c.as_slice.ensures c.in_ok-types.ensures.known)
     (c.in_ok-global_items.ensures ∙ c.as_slice-7.ensures) (c.in_ok-constants.ensures ∙ c.as_slice-8.ensures) (c.in_ok-literals.ensures ∙ c.as_slice-9.ensures)
     c.in_ok-declared.ensures.grows c.in_ok-variables.ensures.grows c.in_ok-bodies.ensures.grows

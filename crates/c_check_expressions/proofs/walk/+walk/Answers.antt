@@ -141,4 +141,4 @@ read_expr-returns-in-SizeOfKind t c = reads_as (size_of_kind_is c.args.expr.now 
 
 -- src/walk.rt:18:1
 pub read_expr-returns-in_ok-t-in-SizeOfValue : goal.read_expr-returns-in_ok-t-in-SizeOfValue
-read_expr-returns-in_ok-t-in-SizeOfValue t c = reads_as (size_of_value_is c.args.expr.now _ _ _ _ c.in-SizeOfValue.is c.get-in-SizeOfValue.ensures) (one_ends _ (unevaluated_reads c.len-literals.ensures c.truncate.ensures c.in_ok-t-in-SizeOfValue.ensures) c.end_size.ensures)
+read_expr-returns-in_ok-t-in-SizeOfValue t c = reads_as (size_of_value_is c.args.expr.now _ _ _ _ c.in-SizeOfValue.is c.get-in-SizeOfValue.ensures) (one_ends _ (unevaluated_reads c.len-literals.ensures c.len-used.ensures c.truncate.ensures c.truncate-in-SizeOfValue.ensures c.in_ok-t-in-SizeOfValue.ensures) c.end_size.ensures)

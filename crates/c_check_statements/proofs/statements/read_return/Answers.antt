@@ -14,7 +14,7 @@ returns-in_err-t-in-Some c = return_as _ _ c.in-Some.is (then_stops _ _ (value_s
 
 pub returns-in_ok-t-in-Some : goal.returns-in_ok-t-in-Some
 returns-in_ok-t-in-Some c = return_as _ _ c.in-Some.is (then_ends _ _ (value_ends c.in_ok-t-in-Some.ensures)
-    (node_of (λ (t : Option Typed). return_kinds c.read_value.new.state.scope.result (Some c.in-Some.expr) t) (value_is c.in_ok-t-in-Some.ensures) c.judge_return.ensures))
+    (node_of (λ (t : Option Typed). return_kinds c.read_value.new.state.scope.result (Some c.in-Some.expr) t) (value_is c.in_ok-t-in-Some.ensures) c.judge_value.ensures))
 
 pub returns-in-None : goal.returns-in-None
-returns-in-None c = return_as _ _ c.in-None.is (then_ends stay _ stay_ends (node_ends (subst (λ (b : Bool). Judges (breaks BadType (not b)) c.args.place c.refused_if.result) c.is_void.ensures c.refused_if.ensures)))
+returns-in-None c = return_as _ _ c.in-None.is (then_ends stay _ stay_ends (node_ends c.judge_no_value.ensures))
