@@ -1,3 +1,4 @@
 pub mod First
+pub mod Found
 pub mod Mnemonics
 pub mod Registers
