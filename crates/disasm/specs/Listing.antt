@@ -1,5 +1,5 @@
 -- Code as lines of text.
-use Rattle.std.specs.Prelude.{◌≡◌, ℕ, ◌/◌, ◌%◌, false, List, [], ◌∷◌, ◌++◌, drop, slice_index, codes}
+use Rattle.std.specs.Prelude.{◌≡◌, ℕ, ◌<◌, ◌/◌, ◌%◌, length, false, List, [], ◌∷◌, ◌++◌, drop, slice_index, codes}
 use Rattle.std.specs.Fmt.{digit_glyph}
 use Rattle.x86_forms.specs.declared.instr.Instr.{Instr}
 use Rattle.x86_decode.specs.Reading.{BeginsWith}
@@ -16,7 +16,7 @@ BeginsNone bytes = (i : Instr) (n : ℕ) → BeginsWith bytes i n → ⊥
 -- the text is the line of the first n bytes: of the instruction that they spell, or of the first byte where none begins
 pub data LineOf (bytes text : List ℕ) (n : ℕ) : Type 0 where
   Instruction : (i : Instr) → BeginsWith bytes i n → text ≡ text_of i → LineOf bytes text n
-  Byte : BeginsNone bytes → text ≡ byte_text (slice_index bytes 0) → n ≡ 1 → LineOf bytes text n
+  Byte : 0 < length bytes → BeginsNone bytes → text ≡ byte_text (slice_index bytes 0) → n ≡ 1 → LineOf bytes text n
 
 -- the text has the line of the code's front, and then the lines of the rest
 pub data Lists : List ℕ → List ℕ → Type 0 where

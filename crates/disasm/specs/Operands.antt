@@ -1,5 +1,5 @@
 -- The texts of operands.
-use Rattle.std.specs.Prelude.{ℕ, ◌==◌, if◌then◌else◌, List, [], ◌∷◌, ◌++◌, codes, decimal, Option, None, Some, ℤ, pos, negsuc}
+use Rattle.std.specs.Prelude.{ℕ, ◌==◌, if◌then◌else◌, List, [], ◌++◌, codes, decimal, Option, None, Some, ℤ, pos, negsuc}
 use Rattle.std.specs.Fmt.{signed_decimal}
 use Rattle.x86_forms.specs.declared.instr.Reg.{Reg}
 use Rattle.x86_forms.specs.declared.instr.Base.{Base}

@@ -1,4 +1,4 @@
-use Rattle.std.proofs.Common.{◌≡◌, ℕ, List, ◌++◌, codes}
+use Rattle.std.proofs.Common.{◌≡◌, ◌++◌, codes}
 use Rattle.disasm.proofs.Lines.{listed_more, listed_all}
 use Rattle.disasm.proofs.listing.all.Goals as goal
 

@@ -1,5 +1,4 @@
-use Rattle.std.proofs.Common.{◌≡◌, ◌≤◌, List, length, ap, ◌∙◌, arith}
-use Rattle.asm_names.specs.Registers.{bounds_text}
+use Rattle.std.proofs.Common.{◌≤◌, length, ◌∙◌, arith}
 use Rattle.disasm.proofs.Lengths.{short_as}
 use Rattle.disasm.proofs.Lengths.{length_bounds}
 use Rattle.disasm.proofs.text.push_bounds.Goals as goal

@@ -1,5 +1,4 @@
-use Rattle.std.proofs.Common.{◌≡◌, ◌≤◌, List, length, ap, ◌∙◌, arith}
-use Rattle.asm_names.specs.Mnemonics.{mnemonic_text}
+use Rattle.std.proofs.Common.{◌≤◌, length, ◌∙◌, arith}
 use Rattle.disasm.proofs.Lengths.{short_as}
 use Rattle.disasm.proofs.Lengths.{length_mnemonic}
 use Rattle.disasm.proofs.text.push_mnemonic.Goals as goal
