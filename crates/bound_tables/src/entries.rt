@@ -17,6 +17,7 @@ pub struct Entry {
     pub value: u64,
 }
 
+#[inline(always)]
 fn read_entry(m: &Memory, at: u64) -> Result<Entry, Walk>
     ensures { result ≡ loaded_at (bytes_of m.now) at }
 {
@@ -31,6 +32,7 @@ fn read_entry(m: &Memory, at: u64) -> Result<Entry, Walk>
     }
 }
 
+#[inline(always)]
 fn write_entry(m: &mut Memory, at: u64, e: Entry) -> Result<(), Walk>
     ensures answer { WritesEntry at (stored_at (bytes_of m.old) e at) m.old m.new result }
     ensures refused { OnErr result (m.new ≡ m.old) }
@@ -44,6 +46,7 @@ fn write_entry(m: &mut Memory, at: u64, e: Entry) -> Result<(), Walk>
 /// The table entry of the pointer at address `la`, by the configuration register. It is refused as `Invalid` exactly where
 /// `la` is below 2^47 and the directory entry names no table, and as `Unmapped` at `la` exactly where that is 2^47 or more, or
 /// at the first of the entry's 24 bytes that is in no region.
+#[inline(always)]
 pub fn load_entry(m: &Memory, cfg: u64, la: u64) -> Result<Entry, Walk>
     requires { IsTrue (is_configuration cfg) }
     ensures { result ≡ entry_loaded (bytes_of m.now) cfg la }
@@ -57,6 +60,7 @@ pub fn load_entry(m: &Memory, cfg: u64, la: u64) -> Result<Entry, Walk>
 /// Makes this the table entry of the pointer at address `la`. It is refused as `load_entry`, but that the bytes have to be
 /// writable, and as `NoFrames` exactly where they are and the memory has too few frames for their pages. A refused call
 /// changes nothing.
+#[inline(always)]
 pub fn store_entry(m: &mut Memory, cfg: u64, la: u64, e: Entry) -> Result<(), Walk>
     requires { IsTrue (is_configuration cfg) }
     ensures answer { WritesEntry (place_of (bytes_of m.old) cfg la) (entry_stored (bytes_of m.old) cfg la e) m.old m.new result }

@@ -3,6 +3,7 @@ ghost use Rattle.std.specs.Prelude.{◌≡◌, ◌+◌, ◌≤◌, ◌++◌, sli
 ghost use Rattle.std.specs.Int.{w64, from_le_bytes, to_le_bytes};
 
 /// The number in the 8 bytes from a place on.
+#[inline(always)]
 pub fn word_at(bytes: &[u8; 24], from: usize) -> u64
     requires { from + 8 ≤ 24 }
     ensures { result ≡ from_le_bytes w64 (slice_range bytes.now from (from + 8)) }
@@ -13,6 +14,7 @@ pub fn word_at(bytes: &[u8; 24], from: usize) -> u64
 }
 
 /// The bytes of three numbers, one behind the other.
+#[inline(always)]
 pub fn three_words(first: u64, second: u64, third: u64) -> [u8; 24]
     ensures { result ≡ to_le_bytes w64 first ++ (to_le_bytes w64 second ++ to_le_bytes w64 third) }
 {

@@ -18,6 +18,7 @@ pub enum Walk {
 
 /// Where the directory entry of an address stands.
 #[tactic(auto, unfolding(mx_base::specs::Walk::directory_entry_at))]
+#[inline(always)]
 fn directory_entry(cfg: u64, la: u64) -> u64
     requires { IsTrue (is_configuration cfg) }
     ensures { result ≡ directory_entry_at cfg la }
@@ -26,6 +27,7 @@ fn directory_entry(cfg: u64, la: u64) -> u64
 }
 
 /// The directory entry there.
+#[inline(always)]
 fn entry_word(m: &Memory, cfg: u64, la: u64) -> u64
     requires { IsTrue (is_configuration cfg) }
     ensures { result ≡ number_at 8 (bytes_of m.now) (directory_entry_at cfg la) }
@@ -38,6 +40,7 @@ fn entry_word(m: &Memory, cfg: u64, la: u64) -> u64
 
 /// Where the table entry of an address stands in the table of this directory entry.
 #[tactic(auto, unfolding(mx_base::specs::Walk::table_entry_at))]
+#[inline(always)]
 fn place_in_table(entry: u64, la: u64) -> u64
     ensures { result ≡ table_entry_at entry la }
 {
@@ -46,6 +49,7 @@ fn place_in_table(entry: u64, la: u64) -> u64
 
 /// Where the table entry of an address stands.
 #[tactic(auto, unfolding(mx_base::specs::Walk::walk))]
+#[inline(always)]
 pub fn table_entry(m: &Memory, cfg: u64, la: u64) -> Result<u64, Walk>
     requires { IsTrue (is_configuration cfg) }
     ensures { result ≡ at_place (walk (bytes_of m.now) cfg la) (λ at. Ok at) }

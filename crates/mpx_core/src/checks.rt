@@ -8,6 +8,7 @@ ghost use Rattle.mpx_core.specs.Steps.{Beside, seen, Does, status_of};
 use crate::registers::{BndRegs, BndStop};
 
 /// A check of a value against a bounds register, which fails or not. A failed one sets BNDSTATUS to 1.
+#[inline(always)]
 pub fn check(b: &mut BndRegs, k: u8, fails: bool, value: u64) -> Result<(), BndStop>
     requires { k < 4 }
     ensures row { (s : Beside) (regs : ℕ → ℕ) (next : ℕ) (m : Paged) → Does s regs next b.old m (checked (seen s regs b.old) next fails value (bounds_of b.old k)) b.new m result }

@@ -27,6 +27,7 @@ pub enum BndStop {
     Stop(MemStop),
 }
 
+#[inline(always)]
 fn set_word(words: &mut [u64; 4], k: u8, word: u64)
     requires { k < 4 }
     ensures { slice_index words.new ≡ with_reg (slice_index words.old) k word }
@@ -35,6 +36,7 @@ fn set_word(words: &mut [u64; 4], k: u8, word: u64)
 }
 
 /// One of four words.
+#[inline(always)]
 pub fn word_of(words: &[u64; 4], k: u8) -> u64
     requires { k < 4 }
     ensures { result ≡ slice_index words.now k }
@@ -43,6 +45,7 @@ pub fn word_of(words: &[u64; 4], k: u8) -> u64
 }
 
 /// Sets one bounds register.
+#[inline(always)]
 pub fn set_register(b: &mut BndRegs, k: u8, lb: u64, held: u64)
     requires { k < 4 }
     ensures bounds { bounds_of b.new ≡ with_bounds (bounds_of b.old) k (held_bounds lb held) }
@@ -54,6 +57,7 @@ pub fn set_register(b: &mut BndRegs, k: u8, lb: u64, held: u64)
 }
 
 /// The word in which a register holds its upper bound.
+#[inline(always)]
 pub fn held_word(b: &BndRegs, k: u8) -> u64
     requires { k < 4 }
     ensures { result ≡ complement (bounds_of b.now k).ub }
@@ -63,6 +67,7 @@ pub fn held_word(b: &BndRegs, k: u8) -> u64
 
 /// What a near branch makes of the bounds registers: without the BND prefix all four allow every address, unless BNDPRESERVE is
 /// set.
+#[inline(always)]
 pub fn branch(b: &mut BndRegs, prefixed: bool)
     ensures bounds { bounds_of b.new ≡ (if prefixed || preserves b.old.cfg then bounds_of b.old else init_bounds) }
     ensures cfg { b.new.cfg ≡ b.old.cfg }

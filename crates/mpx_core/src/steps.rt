@@ -15,6 +15,7 @@ use paged_memory::Memory;
 use x86_forms::{Instr, Rm, address_of, base_of};
 
 /// Whether an instruction is of MPX, so that `step` does it.
+#[inline(always)]
 pub fn bounds(i: &Instr) -> bool
     ensures { result ≡ is_bounds i.now }
 {
@@ -32,6 +33,7 @@ pub fn bounds(i: &Instr) -> bool
 }
 
 /// BNDMOV from a bounds register or memory.
+#[inline(always)]
 fn move_from(
     b: &mut BndRegs,
     regs: &[u64; 16],
@@ -60,6 +62,7 @@ fn move_from(
 /// Does one MPX instruction over these registers, `next` being the address after it: exactly its row of the instruction table,
 /// with the walk as the store of bounds. A step that isn't done changes nothing but BNDSTATUS, which a failed check sets to 1
 /// and a directory entry that names no table to that entry's address plus 2.
+#[inline(always)]
 pub fn step(
     b: &mut BndRegs,
     regs: &[u64; 16],

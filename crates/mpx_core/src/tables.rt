@@ -12,6 +12,7 @@ use bound_tables::{Entry, Walk, load_entry, store_entry};
 use paged_memory::Memory;
 
 /// A walk that gave no entry, as a stop. A directory entry that names no table is told in BNDSTATUS.
+#[inline(never)]
 fn refuse(b: &mut BndRegs, refusal: Walk) -> BndStop
     requires { IsLow refusal }
     ensures stop { result ≡ stop_of refusal }
@@ -27,6 +28,7 @@ fn refuse(b: &mut BndRegs, refusal: Walk) -> BndStop
 }
 
 /// BNDLDX: the bounds of the pointer of this value at address `la`; every address where another value's bounds are stored.
+#[inline(always)]
 pub fn load_from_table(
     b: &mut BndRegs,
     m: &Memory,
@@ -54,6 +56,7 @@ pub fn load_from_table(
 }
 
 /// A walk that puts bounds into its table entry.
+#[inline(always)]
 fn keep(b: &BndRegs, m: &mut Memory, k: u8, la: u64, value: u64) -> Result<(), Walk>
     requires register { k < 4 }
     requires configured { IsTrue (is_configuration b.now.cfg) }
@@ -67,6 +70,7 @@ fn keep(b: &BndRegs, m: &mut Memory, k: u8, la: u64, value: u64) -> Result<(), W
 }
 
 /// BNDSTX: stores the bounds of the pointer of this value at address `la`.
+#[inline(always)]
 pub fn store_to_table(
     b: &mut BndRegs,
     m: &mut Memory,

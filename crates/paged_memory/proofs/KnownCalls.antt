@@ -1,14 +1,14 @@
 -- Loads and stores at a kept page.
 use Rattle.std.specs.Prelude.{length}
 use Rattle.std.specs.Int.{w64, from_le_bytes, to_le_bytes}
-use Rattle.std.proofs.Common.{◌≡◌, ℕ, ◌+◌, ◌-◌, ◌*◌, ◌/◌, ◌%◌, ◌<◌, ◌≤◌, true, IsTrue, None, Result, Ok, List, ◌++◌, take, drop, replicate, length-take-le, sym, ap, ◌∙◌, subst, arith}
-use Rattle.mx_base.specs.Memory.{Bytes, with_list, number_at, first_refused}
+use Rattle.std.proofs.Common.{◌≡◌, ℕ, ◌+◌, ◌-◌, ◌*◌, ◌/◌, ◌%◌, ◌<◌, ◌≤◌, true, IsTrue, None, Result, Ok, List, ◌++◌, take, drop, replicate, length-take-le, refl, sym, ap, ◌∙◌, subst, arith}
+use Rattle.mx_base.specs.Memory.{Bytes, list_at, with_list, number_at, first_refused}
 use Rattle.mx_base.specs.Regions.{is_writable}
 use Rattle.paged_memory.specs.declared.slots.Slot.{Slot}
 use Rattle.paged_memory.specs.declared.stops.MemStop.{MemStop}
 use Rattle.paged_memory.specs.Touched.{has_page}
 use Rattle.paged_memory.specs.Paged.{bytes_of}
-use Rattle.paged_memory.specs.Answers.{is_width, load_answer, store_answer, Writes}
+use Rattle.paged_memory.specs.Answers.{is_width, load_answer, store_answer, write_answer, Writes}
 use Rattle.paged_memory.specs.Frames.{frame_in, pages_in, byte_under, put_at, paged_of, IsSound}
 use Rattle.paged_memory.specs.Known.{StandAt}
 use Rattle.paged_memory.proofs.Numbers.{number_of_list, with_number_bytes, width_most, width_some}
@@ -67,6 +67,21 @@ store_bytes slots frames fs bytes capacity a n at sound some s long is =
     written_to slots slots frames fs bytes capacity a
     (ap (byte_under (frame_in slots)) put ∙ put_at-under (frame_in slots) frames bytes a (at / 4096) sound.apart s.there (lie_within slots frames capacity (a / 4096) (at / 4096) sound s.there) fits)
     (sym pages) (omega (arith, few, count, same))
+
+-- a write of so many bytes there
+pub write_known : (slots : List Slot) (frames fs bytes : List ℕ) (capacity a at : ℕ) → IsSound slots frames capacity → 0 < length bytes → StandAt slots a (length bytes) at → fs ≡ put_at frames at bytes
+    → Writes (length bytes) a (write_answer bytes (bytes_of (paged_of slots frames capacity)) a) (paged_of slots frames capacity) (paged_of slots fs capacity) (Ok (tt {0}))
+write_known slots frames fs bytes capacity a at sound some s is =
+    subst (λ (w : Result Bytes MemStop). Writes (length bytes) a w (paged_of slots frames capacity) (paged_of slots fs capacity) (Ok (tt {0})))
+    (sym (write_allowed bytes (bytes_of (paged_of slots frames capacity)) a (stand_writable slots a (length bytes) at s)))
+    (store_bytes slots frames fs bytes capacity a (length bytes) at sound some s refl is)
+
+-- the bytes that a read gives there
+pub read_known : (slots : List Slot) (frames : List ℕ) (capacity a n at : ℕ) → IsSound slots frames capacity → StandAt slots a n at → take n (drop at frames) ≡ list_at n (bytes_of (paged_of slots frames capacity)) a
+read_known slots frames capacity a n at sound s =
+    ap (λ p. take n (drop p frames)) (sym (place_is slots a n at s))
+    ∙ sym (list_of_frame n (frame_in slots) frames a (at / 4096) s.inside s.there (lie_within slots frames capacity (a / 4096) (at / 4096) sound s.there))
+    ∙ ap (λ m. list_at n m a) (sym (bytes_of-paged_of slots frames capacity))
 
 pub store_known : (slots : List Slot) (frames fs : List ℕ) (capacity a n at v : ℕ) → IsSound slots frames capacity → IsTrue (is_width n) → StandAt slots a n at
     → fs ≡ put_at frames at (take n (to_le_bytes w64 v))

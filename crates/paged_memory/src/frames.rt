@@ -1,5 +1,5 @@
 //! The bytes of pages and their frames.
-ghost use Rattle.std.specs.Prelude.{◌≡◌, ℕ, ◌+◌, ◌*◌, ◌/◌, ◌%◌, ◌^◌, ◌<◌, ◌≤◌, length, replicate, Some, vec_capacity};
+ghost use Rattle.std.specs.Prelude.{◌≡◌, ℕ, ◌+◌, ◌*◌, ◌/◌, ◌%◌, ◌^◌, ◌<◌, ◌≤◌, length, replicate, take, drop, Some, vec_capacity};
 ghost use Rattle.mx_base.specs.Memory.{list_at, with_list};
 ghost use Rattle.paged_memory.specs.Touched.{touched_with, touched_by};
 ghost use Rattle.paged_memory.specs.Frames.{byte_under, frame_in, pages_in, AreByPage, LieWithin, IsSound, KeepsFrames, put_at};
@@ -48,6 +48,16 @@ pub fn copy_out(slots: &[Slot], frames: &[u8], a: u64, buf: &mut [u8])
     }
 }
 
+/// Copies bytes that stand at a place of the frames.
+#[inline(always)]
+pub fn get_part(frames: &[u8], at: usize, buf: &mut [u8])
+    requires { at + length buf.old ≤ length frames.now }
+    ensures { buf.new ≡ take (length buf.old) (drop at frames.now) }
+{
+    buf.copy_from_slice(&frames[at..at + buf.len()]);
+}
+
+/// Writes bytes at a place of the frames.
 #[inline(always)]
 pub fn put_part(frames: &mut [u8], at: usize, bytes: &[u8])
     requires { at + length bytes.now ≤ length frames.old }

@@ -34,13 +34,14 @@ fn place_in(page: u64) -> usize
 
 /// Where `n` bytes at `a` stand among the frames, if they lie in one page that is kept.
 #[inline(always)]
-pub fn known_place(known: &[Slot], a: u64, n: u8) -> Option<usize>
-    requires { length known.now ≡ known_count }
+pub fn known_place(known: &[Slot], a: u64, n: usize) -> Option<usize>
+    requires count { length known.now ≡ known_count }
+    requires few { n ≤ 64 }
     ensures { IfSome result (λ at. (slots : List PageSlot) → AreKnown slots known.now → StandAt slots a n at) }
 {
     let page = a / 4096;
     let slot = known[place_in(page)];
-    if slot.page == page && a % 4096 + u64::from(n) <= 4096 {
+    if slot.page == page && (a % 4096) as usize + n <= 4096 {
         return Some(slot.frame as usize * 4096 + (a % 4096) as usize);
     }
     None

@@ -6,7 +6,7 @@ ghost use Rattle.paged_memory.specs.Paged.{bytes_of, touched_of, in_use_of};
 ghost use Rattle.paged_memory.specs.Answers.{is_width, load_answer, read_answer, fetch_answer, store_answer, write_answer, place_answer, Writes};
 
 use crate::ends::{any_end, code_end, data_end};
-use crate::frames::{copy_out, put};
+use crate::frames::{copy_out, get_part, put, put_part};
 use crate::known::{keep_page, known_place, no_pages, number_in, put_number};
 use crate::slots::{Slot, missing};
 use crate::stops::MemStop;
@@ -77,8 +77,26 @@ impl Memory {
     }
 
     /// The bytes from `a` on.
+    #[inline(always)]
     pub fn read(&self, a: u64, buf: &mut [u8]) -> Result<(), MemStop>
         requires some { 0 < length buf.old }
+        requires few { length buf.old ≤ 64 }
+        ensures answer { result ≡ read_answer (length buf.old) a }
+        ensures done { OnOk result (buf.new ≡ list_at (length buf.old) (bytes_of self.now) a) }
+        ensures refused { OnErr result (buf.new ≡ buf.old) }
+    {
+        match known_place(&self.known, a, buf.len()) {
+            Some(at) => {
+                get_part(&self.frames, at, buf);
+                Ok(())
+            }
+            None => self.read_far(a, buf),
+        }
+    }
+
+    /// The same, wherever the bytes lie.
+    #[inline(never)]
+    fn read_far(&self, a: u64, buf: &mut [u8]) -> Result<(), MemStop>
         requires few { length buf.old ≤ 64 }
         ensures answer { result ≡ read_answer (length buf.old) a }
         ensures done { OnOk result (buf.new ≡ list_at (length buf.old) (bytes_of self.now) a) }
@@ -98,7 +116,7 @@ impl Memory {
         requires { IsTrue (is_width n) }
         ensures { result ≡ load_answer n (bytes_of self.now) a }
     {
-        match known_place(&self.known, a, n) {
+        match known_place(&self.known, a, n as usize) {
             Some(at) => Ok(number_in(&self.frames, at, n)),
             None => self.load_far(a, n),
         }
@@ -111,7 +129,7 @@ impl Memory {
         ensures { result ≡ load_answer n (bytes_of self.now) a }
     {
         let mut bytes = [0u8; 8];
-        match self.read(a, &mut bytes[..n as usize]) {
+        match self.read_far(a, &mut bytes[..n as usize]) {
             Ok(()) => Ok(u64::from_le_bytes(bytes)),
             Err(stop) => Err(stop),
         }
@@ -156,7 +174,7 @@ impl Memory {
         ensures answer { Writes n a (store_answer n (bytes_of self.old) a v) self.old self.new result }
         ensures refused { OnErr result (self.new ≡ self.old) }
     {
-        match known_place(&self.known, a, n) {
+        match known_place(&self.known, a, n as usize) {
             Some(at) => {
                 put_number(&mut self.frames, at, n, v);
                 Ok(())
@@ -173,11 +191,29 @@ impl Memory {
         ensures refused { OnErr result (self.new ≡ self.old) }
     {
         let bytes = v.to_le_bytes();
-        self.write(a, &bytes[..n as usize])
+        self.write_far(a, &bytes[..n as usize])
     }
 
     /// Writes the bytes from `a` on.
+    #[inline(always)]
     pub fn write(&mut self, a: u64, bytes: &[u8]) -> Result<(), MemStop>
+        requires some { 0 < length bytes.now }
+        requires few { length bytes.now ≤ 64 }
+        ensures answer { Writes (length bytes.now) a (write_answer bytes.now (bytes_of self.old) a) self.old self.new result }
+        ensures refused { OnErr result (self.new ≡ self.old) }
+    {
+        match known_place(&self.known, a, bytes.len()) {
+            Some(at) => {
+                put_part(&mut self.frames, at, bytes);
+                Ok(())
+            }
+            None => self.write_far(a, bytes),
+        }
+    }
+
+    /// The same, wherever the bytes lie.
+    #[inline(never)]
+    fn write_far(&mut self, a: u64, bytes: &[u8]) -> Result<(), MemStop>
         requires some { 0 < length bytes.now }
         requires few { length bytes.now ≤ 64 }
         ensures answer { Writes (length bytes.now) a (write_answer bytes.now (bytes_of self.old) a) self.old self.new result }

@@ -1,14 +1,17 @@
 -- The first sealed byte by the ends of the sealed regions.
-use Rattle.std.proofs.Common.{◌≡◌, ℕ, ◌+◌, ◌-◌, ◌<◌, ◌≤◌, min, Bool, true, false, None, Some, refl, arith}
+use Rattle.std.proofs.Common.{◌≡◌, ℕ, ◌+◌, ◌-◌, ◌<◌, ◌≤◌, min, Bool, true, false, cond, Option, None, Some, refl, sym, ap, ◌∙◌, arith}
 use Rattle.std.specs.Prelude.{not}
 use Rattle.std.proofs.lemmas.Bool.Decides.{nat_tests}
 use Rattle.mx_base.specs.Bounds.{addresses}
 use Rattle.mx_base.specs.Memory.{first_refused, first_refused_around}
 use Rattle.mx_base.specs.Regions.{is_sealed}
-use Rattle.mx_base.proofs.MemoryLemmas.{first_refused-all}
+use Rattle.mx_base.proofs.MemoryLemmas.{first_refused-all, first_refused_around-plain}
 use Rattle.x86_forms.specs.declared.spans.Span.{Span}
-use Rattle.x86_forms.specs.Watch.{first_sealed}
+use Rattle.x86_forms.specs.declared.instr.Instr.{Instr}
+use Rattle.x86_forms.specs.Watch.{first_sealed, access_strays, is_watched}
 use Rattle.x86_forms.proofs.WatchFirst.{first_refused-first}
+use Rattle.seal_watch.specs.declared.verdicts.Verdict.TheVariants.{Fine}
+use Rattle.seal_watch.specs.Verdicts.{verdict_of}
 use Rattle.seal_watch.specs.Sealed.{IsFirstSealedFrom, is_unsealed, sealed_low, sealed_high}
 
 -- the first sealed address of all
@@ -69,3 +72,23 @@ halves-low s x h = rw (← h) refl
 pub halves-high : (s : Span) → None ≡ sealed_low s → sealed_high s ≡ first_sealed s
 unfolding sealed_low sealed_high first_sealed first_refused_around
 halves-high s h = rw (← h) refl
+
+-- ---- between the instrumented code and the cells
+
+never_sealed : (y : ℕ) → 0x1100_0000 ≤ y → y < 0x7000_0000 → is_sealed y ≡ false
+unfolding is_sealed
+never_sealed y low high = grind (arith, nat_tests)
+
+pub clear_access : (s : Span) → 0x1100_0000 ≤ s.at → s.at + s.size ≤ 0x7000_0000 → first_sealed s ≡ None
+unfolding first_sealed
+clear_access s low high =
+    first_refused_around-plain is_unsealed s.size s.at (omega arith)
+    ∙ first_refused-all is_unsealed s.size s.at (λ y from below. opened (is_sealed y) (never_sealed y (omega arith) (omega arith)))
+
+strays_never : (watched : Bool) (o : Option ℕ) → o ≡ None → cond watched o None ≡ None
+strays_never true o h = h
+strays_never false o h = refl
+
+pub clear_verdict : (i : Instr) (from : ℕ) (s : Span) → first_sealed s ≡ None → Fine ≡ verdict_of (access_strays i from s)
+unfolding access_strays
+clear_verdict i from s h = ap verdict_of (sym (strays_never (is_watched i from s) (first_sealed s) h))

@@ -14,6 +14,7 @@ const FIRST_OUTER: u64 = 0x0101_0000;
 
 const OUTER_SIZE: u64 = 128;
 
+#[inline(always)]
 pub fn is_instrumented(a: u64) -> bool
     ensures { result ≡ is_in instrumented_code a }
 {
@@ -21,6 +22,7 @@ pub fn is_instrumented(a: u64) -> bool
 }
 
 #[tactic(auto, unfolding(x86_forms::specs::Watch::is_in_outer))]
+#[inline(always)]
 fn lies_in_outer(outers: u32, a: u64) -> bool
     ensures { result ≡ is_in_outer outers a }
 {
@@ -28,6 +30,7 @@ fn lies_in_outer(outers: u32, a: u64) -> bool
 }
 
 #[tactic(auto, unfolding(x86_forms::specs::Watch::begins_outer, x86_forms::specs::Watch::is_in_outer))]
+#[inline(always)]
 fn is_outer_entry(outers: u32, a: u64) -> bool
     ensures { result ≡ begins_outer outers a }
 {
@@ -35,6 +38,7 @@ fn is_outer_entry(outers: u32, a: u64) -> bool
 }
 
 #[tactic(auto, unfolding(x86_forms::specs::Watch::may_enter))]
+#[inline(always)]
 fn is_let_in(to: u64, call: bool, outers: u32) -> bool
     ensures { result ≡ may_enter to call outers }
 {
@@ -42,6 +46,7 @@ fn is_let_in(to: u64, call: bool, outers: u32) -> bool
 }
 
 #[tactic(auto, unfolding(x86_forms::specs::Watch::is_legacy_control))]
+#[inline(always)]
 fn is_of_legacy(from: u64, ret: bool, outers: u32) -> bool
     ensures { result ≡ is_legacy_control from ret outers }
 {
@@ -52,6 +57,7 @@ fn is_of_legacy(from: u64, ret: bool, outers: u32) -> bool
 /// neither, in an image with so many outer entries. Control of legacy code, to which the return of an outer entry belongs,
 /// strays into instrumented code anywhere but at the landing and, by a call, at the first byte of an outer entry.
 #[tactic(auto, unfolding(x86_forms::specs::Watch::control_strays))]
+#[inline(always)]
 pub fn judge_jump(from: u64, to: u64, call: bool, ret: bool, outers: u32) -> Verdict
     ensures { result ≡ verdict_of (control_strays from to call ret outers) }
 {

@@ -4,6 +4,7 @@ ghost use Rattle.x86_forms.specs.Watch.{memory_of, operand_of, is_c_base, is_c_o
 
 use x86_forms::{Base, Instr, Mem, Rm, Span};
 
+#[inline(always)]
 fn in_memory(rm: Rm) -> Option<Mem>
     ensures { result ≡ memory_of rm }
 {
@@ -14,6 +15,7 @@ fn in_memory(rm: Rm) -> Option<Mem>
 }
 
 /// The memory operand of an instruction.
+#[inline(always)]
 fn operand(i: &Instr) -> Option<Mem>
     ensures { result ≡ operand_of i.now }
 {
@@ -49,6 +51,7 @@ fn operand(i: &Instr) -> Option<Mem>
 }
 
 /// By rsp, which is register 4, the code reaches its own frame; without a base register, or from rip, the cells.
+#[inline(always)]
 fn is_base_of_c(base: Base) -> bool
     ensures { result ≡ is_c_base base }
 {
@@ -59,6 +62,7 @@ fn is_base_of_c(base: Base) -> bool
     }
 }
 
+#[inline(always)]
 fn is_operand_of_c(m: Option<Mem>) -> bool
     ensures { result ≡ is_c_operand m }
 {
@@ -70,6 +74,7 @@ fn is_operand_of_c(m: Option<Mem>) -> bool
 
 /// Whether an access of an instruction of instrumented code is one that it makes for C.
 #[tactic(auto, unfolding(x86_forms::specs::Watch::is_c_access))]
+#[inline(always)]
 pub fn is_for_c(i: &Instr, s: Span) -> bool
     ensures { result ≡ is_c_access i.now s }
 {

@@ -7,6 +7,7 @@ use x86_forms::Span;
 
 /// The first sealed address from `a` on.
 #[tactic(auto, unfolding(mx_base::specs::Regions::is_sealed))]
+#[inline(always)]
 fn next_sealed(a: u64) -> Option<u64>
     ensures { IsNextSealed a result }
 {
@@ -29,6 +30,7 @@ fn next_sealed(a: u64) -> Option<u64>
 }
 
 /// The first sealed one of the first bytes of an access: those up to the last address.
+#[inline(always)]
 fn sealed_below_the_end(s: Span) -> Option<u64>
     ensures { result ≡ sealed_low s }
 {
@@ -39,6 +41,7 @@ fn sealed_below_the_end(s: Span) -> Option<u64>
 }
 
 /// The first sealed one of the bytes of an access that stand past the last address, from address 0 on.
+#[inline(always)]
 fn sealed_from_zero(s: Span) -> Option<u64>
     ensures { result ≡ sealed_high s }
 {
@@ -51,6 +54,7 @@ fn sealed_from_zero(s: Span) -> Option<u64>
 }
 
 /// The first sealed byte of an access.
+#[inline(always)]
 pub fn first_sealed_byte(s: Span) -> Option<u64>
     ensures { result ≡ first_sealed s }
 {

@@ -1,6 +1,6 @@
 //! The verdict on a data access.
-ghost use Rattle.std.specs.Prelude.{◌≡◌};
-ghost use Rattle.x86_forms.specs.Watch.{access_strays};
+ghost use Rattle.std.specs.Prelude.{◌≡◌, true, None};
+ghost use Rattle.x86_forms.specs.Watch.{access_strays, first_sealed};
 ghost use Rattle.seal_watch.specs.Verdicts.{verdict_of};
 
 use crate::control::is_instrumented;
@@ -16,13 +16,26 @@ pub enum Verdict {
     Strayed(u64),
 }
 
+/// Whether an access lies between the instrumented code and the cells, where no byte is sealed. Most accesses do.
+#[tactic(auto, using(crate::proofs::Runs::clear_access))]
+#[inline(always)]
+fn is_clear(s: Span) -> bool
+    ensures { result ≡ true → first_sealed s ≡ None }
+{
+    0x1100_0000 <= s.at && s.at < 0x7000_0000 && s.size <= 0x7000_0000 - s.at
+}
+
 /// The verdict on an access that the instruction at address `from` makes. Legacy code strays at the first sealed byte, and so
 /// does an access of instrumented code that it makes for C. The reading of a service is an implicit access. An access may go
 /// past the last address and on from address 0.
 #[tactic(auto, unfolding(x86_forms::specs::Watch::access_strays, x86_forms::specs::Watch::is_watched))]
+#[inline(always)]
 pub fn judge(i: &Instr, from: u64, s: Span) -> Verdict
     ensures { result ≡ verdict_of (access_strays i.now from s) }
 {
+    if is_clear(s) {
+        return Verdict::Fine;
+    }
     if is_instrumented(from) && !is_for_c(i, s) {
         return Verdict::Fine;
     }

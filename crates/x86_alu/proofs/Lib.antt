@@ -1,3 +1,4 @@
 pub mod Dividing
 pub mod Shifting
 pub mod Widths
+mod Signs

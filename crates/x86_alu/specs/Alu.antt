@@ -1,4 +1,5 @@
 -- The operations and the flags of the code, as the instruction table names them.
+use Rattle.std.specs.Prelude.{Bool, not, ◌&&◌, if◌then◌else◌}
 use Rattle.x86_alu.specs.declared.op.AluOp.{AluOp}
 use Rattle.x86_alu.specs.declared.op.AluOp.TheVariants.{Add, Or, And, Sub, Xor, Cmp, Test, Imul, Not, Neg, Shl, Shr, Sar}
 use Rattle.x86_alu.specs.declared.op.Four.{Four}
@@ -22,3 +23,7 @@ operation_of Sar = table.Sar
 
 abbrev pub flags_in : Four → Flags
 flags_in f = record { cf = f.cf; zf = f.zf; sf = f.sf; of = f.of }
+
+-- whether a sum has the wrong sign: both numbers have the same one, and the sum has the other
+abbrev pub sign_is_wrong : Bool → Bool → Bool → Bool
+sign_is_wrong a b sum = if a then b && not sum else sum && not b

@@ -7,6 +7,7 @@ use crate::op::Four;
 
 /// Whether the condition of a code holds: o 0, no 1, b 2, ae 3, e 4, ne 5, be 6, a 7, s 8, ns 9, l 12, ge 13, le 14, g 15.
 #[tactic(auto, unfolding(x86_forms::specs::Arithmetic::holds))]
+#[inline(always)]
 pub fn holds(cc: u8, f: Four) -> bool
     requires { IsTrue (condition_ok cc) }
     ensures { result ≡ holds_by cc (flags_in f) }

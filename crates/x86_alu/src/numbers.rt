@@ -7,6 +7,7 @@ ghost use Rattle.x86_alu.specs.Alu.{flags_in};
 use crate::op::Four;
 
 /// The low `w` bits.
+#[inline(always)]
 pub fn low(w: u8, a: u64) -> u64
     requires { IsTrue (word_ok w) }
     ensures value { result ≡ low_bits w a }
@@ -16,6 +17,7 @@ pub fn low(w: u8, a: u64) -> u64
 }
 
 /// How many numbers `w` bits have.
+#[inline(always)]
 pub fn modulus(w: u8) -> u128
     requires { IsTrue (word_ok w) }
     ensures { result ≡ 2 ^ w }
@@ -28,6 +30,7 @@ pub fn modulus(w: u8) -> u128
 }
 
 /// Half as many, which is also the least number whose top bit is set.
+#[inline(always)]
 pub fn half(w: u8) -> u64
     requires { IsTrue (word_ok w) }
     ensures value { result ≡ 2 ^ (w - 1) }
@@ -42,6 +45,7 @@ pub fn half(w: u8) -> u64
 
 /// Whether the top bit is set.
 #[tactic(auto, unfolding(x86_forms::specs::Arithmetic::is_negative))]
+#[inline(always)]
 pub fn is_negative(w: u8, a: u64) -> bool
     requires { IsTrue (word_ok w) }
     ensures { result ≡ is_negative_of w a }
@@ -50,6 +54,7 @@ pub fn is_negative(w: u8, a: u64) -> bool
 }
 
 /// The signed number that `w` bits stand for.
+#[inline(always)]
 pub fn signed_value(w: u8, a: u64) -> i64
     requires width { IsTrue (word_ok w) }
     requires below { a < 2 ^ w }
@@ -65,6 +70,7 @@ pub fn signed_value(w: u8, a: u64) -> i64
 }
 
 /// The `w` bits that stand for a signed number, modulo 2^w.
+#[inline(always)]
 pub fn word_of(w: u8, n: i128) -> u64
     requires { IsTrue (word_ok w) }
     ensures value { result ≡ bits_of w n }
@@ -74,6 +80,7 @@ pub fn word_of(w: u8, n: i128) -> u64
 }
 
 /// Whether `w` bits hold the signed number.
+#[inline(always)]
 pub fn fits(w: u8, n: i128) -> bool
     requires { IsTrue (word_ok w) }
     ensures { result ≡ holds_signed w n }
@@ -83,6 +90,7 @@ pub fn fits(w: u8, n: i128) -> bool
 }
 
 /// The flags of a result, which has `w` bits.
+#[inline(always)]
 pub fn flags(w: u8, r: u64, carry: bool, overflow: bool) -> Four
     requires { IsTrue (word_ok w) }
     ensures { flags_in result ≡ flags_of w r carry overflow }

@@ -9,6 +9,7 @@ use crate::shifts::{shift_left, shift_right, shift_signed};
 use crate::sums::{add, multiply, subtract};
 
 /// A result of `or`, `and`, `xor` or `test`, with its flags.
+#[inline(always)]
 fn logical(w: u8, r: u64) -> (u64, Four)
     requires { IsTrue (word_ok w) }
     ensures value { result.0 ≡ r }
@@ -18,6 +19,7 @@ fn logical(w: u8, r: u64) -> (u64, Four)
 }
 
 /// The bits of `a` turned round.
+#[inline(always)]
 fn inverted(w: u8, a: u64) -> u64
     requires width { IsTrue (word_ok w) }
     requires below { a < 2 ^ w }
@@ -31,6 +33,7 @@ fn inverted(w: u8, a: u64) -> u64
 /// Where the manual leaves a flag undefined it is clear: zero and sign after `imul`, and overflow after a shift by more
 /// than 1.
 #[tactic(auto, unfolding(x86_forms::specs::Arithmetic::result_of, x86_forms::specs::Arithmetic::flags_after))]
+#[inline(always)]
 pub fn arith(op: AluOp, w: u8, a: u64, b: u64, f: Four) -> (u64, Four)
     requires { IsTrue (word_ok w) }
     ensures value { result.0 ≡ result_of (operation_of op) w (low_bits w a) (low_bits w b) }

@@ -47,6 +47,7 @@ fn right_overflow(w: u8, a: u64, c: u32) -> bool
 }
 
 /// `shl`.
+#[inline(never)]
 pub fn shift_left(w: u8, a: u64, b: u64, before: Four) -> (u64, Four)
     requires width { IsTrue (word_ok w) }
     requires a_below { a < 2 ^ w }
@@ -63,6 +64,7 @@ pub fn shift_left(w: u8, a: u64, b: u64, before: Four) -> (u64, Four)
 }
 
 /// `shr`.
+#[inline(never)]
 pub fn shift_right(w: u8, a: u64, b: u64, before: Four) -> (u64, Four)
     requires width { IsTrue (word_ok w) }
     requires a_below { a < 2 ^ w }
@@ -79,6 +81,7 @@ pub fn shift_right(w: u8, a: u64, b: u64, before: Four) -> (u64, Four)
 }
 
 /// `sar`.
+#[inline(never)]
 pub fn shift_signed(w: u8, a: u64, b: u64, before: Four) -> (u64, Four)
     requires width { IsTrue (word_ok w) }
     requires a_below { a < 2 ^ w }

@@ -13,6 +13,7 @@ use paged_memory::Memory;
 use x86_forms::{Reg, Rm};
 
 /// The target of a relative branch.
+#[inline(always)]
 pub fn target_of(next: u64, rel: i32) -> u64
     ensures { result ≡ branch_target next rel }
 {
@@ -20,6 +21,7 @@ pub fn target_of(next: u64, rel: i32) -> u64
 }
 
 /// Leads to an address.
+#[inline(always)]
 pub fn go_to(cpu: &mut Cpu, to: u64, done: Done) -> Result<Done, CoreStop>
     ensures cpu { cpu.new ≡ record cpu.old { rip = to } }
     ensures done { result ≡ Ok done }
@@ -29,6 +31,7 @@ pub fn go_to(cpu: &mut Cpu, to: u64, done: Done) -> Result<Done, CoreStop>
 }
 
 /// Pushes 8 bytes, and leads to an address.
+#[inline(always)]
 pub fn push(cpu: &mut Cpu, m: &mut Memory, v: u64, to: u64, done: Done) -> Result<Done, CoreStop>
     ensures row { (s : BoundsState) → Does s cpu.old m.old (pushed (seen s cpu.old) v (moved done (seen s cpu.old) to)) cpu.new m.new result }
     ensures done { IfOk result (λ d. d ≡ done) }
@@ -43,6 +46,7 @@ pub fn push(cpu: &mut Cpu, m: &mut Memory, v: u64, to: u64, done: Done) -> Resul
 }
 
 /// Pops 8 bytes into a register.
+#[inline(always)]
 pub fn pop(cpu: &mut Cpu, m: &Memory, next: u64, r: Reg) -> Result<Done, CoreStop>
     requires { r.0 < 16 }
     ensures row { (s : BoundsState) → Does s cpu.old m.now (Reads ((seen s cpu.old).regs rsp) 8 true (λ v. Ends (with_result (with_stack (at_next (seen s cpu.old) next) (above_stack ((seen s cpu.old).regs rsp))) 64 r.0 v))) cpu.new m.now result }
@@ -58,6 +62,7 @@ pub fn pop(cpu: &mut Cpu, m: &Memory, next: u64, r: Reg) -> Result<Done, CoreSto
 }
 
 /// Pops 8 bytes, and leads there.
+#[inline(always)]
 pub fn pop_target(cpu: &mut Cpu, m: &Memory, done: Done) -> Result<Done, CoreStop>
     ensures row { (s : BoundsState) → Does s cpu.old m.now (Reads ((seen s cpu.old).regs rsp) 8 true (λ target. Ends (with_stack (moved done (seen s cpu.old) (low_bits 64 target)) (above_stack ((seen s cpu.old).regs rsp))))) cpu.new m.now result }
     ensures done { IfOk result (λ d. d ≡ done) }
@@ -71,6 +76,7 @@ pub fn pop_target(cpu: &mut Cpu, m: &Memory, done: Done) -> Result<Done, CoreSto
 }
 
 /// Calls the address in an operand.
+#[inline(never)]
 pub fn call_operand(
     cpu: &mut Cpu,
     m: &mut Memory,
@@ -89,6 +95,7 @@ pub fn call_operand(
 }
 
 /// Leads to the address in an operand.
+#[inline(never)]
 pub fn jump_operand(
     cpu: &mut Cpu,
     m: &Memory,
@@ -106,6 +113,7 @@ pub fn jump_operand(
 }
 
 /// `syscall`: rcx gets the address of the next instruction and r11 the flags, which are 0.
+#[inline(never)]
 pub fn enter_service(cpu: &mut Cpu, next: u64)
     ensures { (s : BoundsState) → seen s cpu.new ≡ with_result (with_result (at_next (seen s cpu.old) next) 64 rcx next) 64 r11 0 }
 {

@@ -14,6 +14,7 @@ use paged_memory::Memory;
 use x86_forms::{Reg, Rm, address_of};
 
 /// The low `w` bits.
+#[inline(always)]
 pub fn low(w: u8, v: u64) -> u64
     requires { IsTrue (width_ok w) }
     ensures value { result ≡ low_bits w v }
@@ -29,6 +30,7 @@ pub fn low(w: u8, v: u64) -> u64
 
 /// What a register holds once `w` bits are written to it.
 #[tactic(auto, unfolding(x86_forms::specs::Processor::part_written))]
+#[inline(always)]
 fn with_low(w: u8, old: u64, v: u64) -> u64
     requires { IsTrue (width_ok w) }
     ensures { result ≡ part_written w old v }
@@ -41,6 +43,7 @@ fn with_low(w: u8, old: u64, v: u64) -> u64
 }
 
 /// Writes `w` bits to a register: 32 bits clear the upper half, and 8 or 16 leave the rest.
+#[inline(always)]
 pub fn set_register(regs: &mut [u64; 16], w: u8, r: Reg, v: u64)
     requires width { IsTrue (width_ok w) }
     requires register { r.0 < 16 }
@@ -51,6 +54,7 @@ pub fn set_register(regs: &mut [u64; 16], w: u8, r: Reg, v: u64)
 }
 
 /// Sets the stack pointer.
+#[inline(always)]
 pub fn set_stack(regs: &mut [u64; 16], sp: u64)
     ensures { slice_index regs.new ≡ with_reg (slice_index regs.old) rsp sp }
 {
@@ -58,6 +62,7 @@ pub fn set_stack(regs: &mut [u64; 16], sp: u64)
 }
 
 /// The number of `n` bytes at an address.
+#[inline(always)]
 pub fn load(m: &Memory, at: u64, n: u8) -> Result<u64, CoreStop>
     requires { IsTrue (is_width n) }
     ensures { result ≡ core_answer (load_answer n (bytes_of m.now) at) }
@@ -69,6 +74,7 @@ pub fn load(m: &Memory, at: u64, n: u8) -> Result<u64, CoreStop>
 }
 
 /// Stores the low `n` bytes of `v` at an address.
+#[inline(always)]
 pub fn store(m: &mut Memory, at: u64, n: u8, v: u64) -> Result<(), CoreStop>
     requires { IsTrue (is_width n) }
     ensures answer { StoresAs (framed_write (framed_of m.old) at n v) (framed_of m.new) result }
@@ -81,6 +87,7 @@ pub fn store(m: &mut Memory, at: u64, n: u8, v: u64) -> Result<(), CoreStop>
 }
 
 /// The `w` bits of a register or memory operand.
+#[inline(always)]
 pub fn value_of(regs: &[u64; 16], m: &Memory, next: u64, w: u8, rm: Rm) -> Result<u64, CoreStop>
     requires width { IsTrue (width_ok w) }
     requires operand { IsTrue (rm_ok rm) }

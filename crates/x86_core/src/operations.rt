@@ -17,6 +17,7 @@ use x86_alu::{AluOp, Four, arith, divide};
 use x86_forms::{Reg, Rm, address_of};
 
 /// The `w` bits of a signed immediate.
+#[inline(always)]
 pub fn imm_value(w: u8, imm: i64) -> u64
     requires { IsTrue (width_ok w) }
     ensures value { result ≡ imm_value_of w imm }
@@ -26,6 +27,7 @@ pub fn imm_value(w: u8, imm: i64) -> u64
 }
 
 /// The operation by its place in the list `add or and sub xor cmp`.
+#[inline(always)]
 pub fn alu_op(op: u8) -> AluOp
     ensures { operation_of result ≡ alu_operation op }
 {
@@ -40,6 +42,7 @@ pub fn alu_op(op: u8) -> AluOp
 }
 
 /// The operation by its place in the list `shl shr sar`.
+#[inline(always)]
 pub fn shift_op(op: u8) -> AluOp
     ensures { operation_of result ≡ shift_operation op }
 {
@@ -51,6 +54,7 @@ pub fn shift_op(op: u8) -> AluOp
 }
 
 /// Writes the `w` bits of `v` to an operand, sets the flags, and goes on.
+#[inline(always)]
 pub fn put(
     cpu: &mut Cpu,
     m: &mut Memory,
@@ -83,6 +87,7 @@ pub fn put(
     }
 }
 
+#[inline(always)]
 fn has_result(op: AluOp) -> bool
     ensures { result ≡ writes_result (operation_of op) }
 {
@@ -90,6 +95,7 @@ fn has_result(op: AluOp) -> bool
 }
 
 /// An operation on the operand's value `a` and on `b`; its result is written to the operand, if it has one.
+#[inline(always)]
 fn operated(
     cpu: &mut Cpu,
     m: &mut Memory,
@@ -120,6 +126,7 @@ fn operated(
 }
 
 /// An operation on an operand and `b`.
+#[inline(always)]
 pub fn operate(
     cpu: &mut Cpu,
     m: &mut Memory,
@@ -141,7 +148,30 @@ pub fn operate(
     operated(cpu, m, next, op, w, rm, a, b)
 }
 
+/// The same, apart from the operations that are frequent.
+#[inline(never)]
+pub fn operate_apart(
+    cpu: &mut Cpu,
+    m: &mut Memory,
+    next: u64,
+    op: AluOp,
+    w: u8,
+    rm: Rm,
+    b: u64,
+) -> Result<Done, CoreStop>
+    requires width { IsTrue (word_ok w) }
+    requires operand { IsTrue (rm_ok rm) }
+    requires below { b < 2 ^ w }
+    ensures row { (s : BoundsState) → Does s cpu.old m.old (value_then (seen s cpu.old) next w rm (λ a. operated_by (seen s cpu.old) next (operation_of op) w rm a b)) cpu.new m.new result }
+    ensures done { IfOk result (λ d. d ≡ Done.Next) }
+    ensures cpu_kept { OnErr result (cpu.new ≡ cpu.old) }
+    ensures memory_kept { OnErr result (m.new ≡ m.old) }
+{
+    operate(cpu, m, next, op, w, rm, b)
+}
+
 /// An operation on a register and an operand.
+#[inline(always)]
 pub fn operate_onto(
     cpu: &mut Cpu,
     m: &mut Memory,
@@ -164,7 +194,30 @@ pub fn operate_onto(
     operated(cpu, m, next, op, w, Rm::Reg(r), a, b)
 }
 
+/// The same, apart from the operations that are frequent.
+#[inline(never)]
+pub fn operate_onto_apart(
+    cpu: &mut Cpu,
+    m: &mut Memory,
+    next: u64,
+    op: AluOp,
+    w: u8,
+    r: Reg,
+    rm: Rm,
+) -> Result<Done, CoreStop>
+    requires width { IsTrue (word_ok w) }
+    requires register { r.0 < 16 }
+    requires operand { IsTrue (rm_ok rm) }
+    ensures row { (s : BoundsState) → Does s cpu.old m.old (value_then (seen s cpu.old) next w rm (λ b. operated_by (seen s cpu.old) next (operation_of op) w (InReg r) (reg_value (seen s cpu.old) w r.0) b)) cpu.new m.new result }
+    ensures done { IfOk result (λ d. d ≡ Done.Next) }
+    ensures cpu_kept { OnErr result (cpu.new ≡ cpu.old) }
+    ensures memory_kept { OnErr result (m.new ≡ m.old) }
+{
+    operate_onto(cpu, m, next, op, w, r, rm)
+}
+
 /// Loads an operand into a register, with zeros above it.
+#[inline(always)]
 pub fn fetch_into(
     cpu: &mut Cpu,
     m: &Memory,
@@ -189,6 +242,7 @@ pub fn fetch_into(
 }
 
 /// The least number of 8, 16 or 32 bits whose top bit is set.
+#[inline(always)]
 fn half(from: u8) -> u64
     requires { IsTrue (less_than_64 from) }
     ensures { result ≡ 2 ^ (from - 1) }
@@ -201,6 +255,7 @@ fn half(from: u8) -> u64
 }
 
 /// All bits above 8, 16 or 32.
+#[inline(always)]
 fn above(from: u8) -> u64
     requires { IsTrue (less_than_64 from) }
     ensures { result + 2 ^ from ≡ 2 ^ 64 }
@@ -213,6 +268,7 @@ fn above(from: u8) -> u64
 }
 
 /// The `w` bits of the signed number that `from` bits stand for.
+#[inline(never)]
 fn spread(w: u8, from: u8, v: u64) -> u64
     requires width { IsTrue (word_ok w) }
     requires from { IsTrue (spreads w from) }
@@ -227,6 +283,7 @@ fn spread(w: u8, from: u8, v: u64) -> u64
 }
 
 /// Loads an operand into a register, with its sign above it.
+#[inline(never)]
 pub fn fetch_signed_into(
     cpu: &mut Cpu,
     m: &Memory,
@@ -270,6 +327,7 @@ fn sign_bits(w: u8, v: u64) -> u64
 }
 
 /// `cdq` and `cqo`: the sign of rax in every bit of rdx.
+#[inline(never)]
 pub fn widen(cpu: &mut Cpu, next: u64, w: u8)
     requires { IsTrue (word_ok w) }
     ensures { (s : BoundsState) → seen s cpu.new ≡ with_result (at_next (seen s cpu.old) next) w rdx (if is_negative w (reg_value (seen s cpu.old) w rax) then 2 ^ w - 1 else 0) }
@@ -305,6 +363,7 @@ fn divide_by(cpu: &mut Cpu, next: u64, is_signed: bool, w: u8, a: u64) -> Result
 }
 
 /// Divides rdx:rax by an operand.
+#[inline(never)]
 pub fn divide_by_operand(
     cpu: &mut Cpu,
     m: &Memory,
@@ -324,6 +383,7 @@ pub fn divide_by_operand(
 }
 
 /// `not`, `neg`, `div` or `idiv` of an operand, by the place in this list.
+#[inline(never)]
 pub fn apply(
     cpu: &mut Cpu,
     m: &mut Memory,

@@ -10,14 +10,15 @@ use crate::branches::{
 use crate::cpu::{CoreStop, Cpu, Done};
 use crate::operands::low;
 use crate::operations::{
-    alu_op, apply, fetch_into, fetch_signed_into, imm_value, operate, operate_onto, put, shift_op,
-    widen,
+    alu_op, apply, fetch_into, fetch_signed_into, imm_value, operate, operate_apart, operate_onto,
+    operate_onto_apart, put, shift_op, widen,
 };
 use paged_memory::Memory;
 use x86_alu::{AluOp, holds};
 use x86_forms::{Instr, Rm, address_of};
 
 /// Whether an instruction isn't of MPX, so that `step` does it.
+#[inline(always)]
 pub fn plain(i: &Instr) -> bool
     ensures { result ≡ is_plain i.now }
 {
@@ -36,6 +37,7 @@ pub fn plain(i: &Instr) -> bool
 
 /// Does one instruction of `len` bytes that isn't of MPX: exactly its row of the instruction table. Reads come first, then
 /// writes and pushes, and then the target. A step that isn't done changes nothing.
+#[inline(always)]
 pub fn step(cpu: &mut Cpu, m: &mut Memory, i: &Instr, len: u8) -> Result<Done, CoreStop>
     requires valid { IsTrue (valid_of i.now) }
     requires plain { IsTrue (is_plain i.now) }
@@ -77,7 +79,7 @@ pub fn step(cpu: &mut Cpu, m: &mut Memory, i: &Instr, len: u8) -> Result<Done, C
             let b = low(w, cpu.regs[r.0 as usize]);
             operate(cpu, m, next, AluOp::Test, w, rm, b)
         }
-        Instr::Imul { w, r, rm } => operate_onto(cpu, m, next, AluOp::Imul, w, r, rm),
+        Instr::Imul { w, r, rm } => operate_onto_apart(cpu, m, next, AluOp::Imul, w, r, rm),
         Instr::One { op, w, rm } => apply(cpu, m, next, op, w, rm),
         Instr::Wide { w } => {
             widen(cpu, next, w);
@@ -85,10 +87,10 @@ pub fn step(cpu: &mut Cpu, m: &mut Memory, i: &Instr, len: u8) -> Result<Done, C
         }
         Instr::ShiftCl { op, w, rm } => {
             let count = low(8, cpu.regs[1]);
-            operate(cpu, m, next, shift_op(op), w, rm, count)
+            operate_apart(cpu, m, next, shift_op(op), w, rm, count)
         }
         Instr::ShiftImm { op, w, rm, imm } => {
-            operate(cpu, m, next, shift_op(op), w, rm, imm_value(8, imm))
+            operate_apart(cpu, m, next, shift_op(op), w, rm, imm_value(8, imm))
         }
         Instr::Set { op, rm } => {
             let v = u64::from(holds(op, flags));
@@ -128,12 +130,14 @@ pub fn step(cpu: &mut Cpu, m: &mut Memory, i: &Instr, len: u8) -> Result<Done, C
     }
 }
 
+#[inline(always)]
 fn chosen(taken: bool, target: u64, next: u64) -> u64
     ensures { result ≡ (if taken then target else next) }
 {
     if taken { target } else { next }
 }
 
+#[inline(always)]
 fn called(prefixed: bool) -> Done
     ensures { result ≡ Done.Branch true false true prefixed }
 {
@@ -145,6 +149,7 @@ fn called(prefixed: bool) -> Done
     }
 }
 
+#[inline(always)]
 fn jumped(taken: bool, prefixed: bool) -> Done
     ensures { result ≡ Done.Branch false false taken prefixed }
 {
@@ -156,6 +161,7 @@ fn jumped(taken: bool, prefixed: bool) -> Done
     }
 }
 
+#[inline(always)]
 fn returned(prefixed: bool) -> Done
     ensures { result ≡ Done.Branch false true true prefixed }
 {

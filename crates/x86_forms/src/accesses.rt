@@ -9,6 +9,7 @@ use crate::instr::{Base, Instr, Mem, Reg, Rm};
 use crate::spans::{Reach, Span};
 
 /// What the base of a memory operand adds to its address, `next` being the address of the next instruction.
+#[inline(always)]
 pub fn base_of(regs: &[u64; 16], next: u64, base: Base, index: Option<(Reg, u8)>) -> u64
     requires { IsTrue (base_ok base index) }
     ensures { result ≡ base_value (slice_index regs.now) next base }
@@ -20,6 +21,7 @@ pub fn base_of(regs: &[u64; 16], next: u64, base: Base, index: Option<(Reg, u8)>
     }
 }
 
+#[inline(always)]
 fn index_of(regs: &[u64; 16], index: Option<(Reg, u8)>) -> u64
     requires { IsTrue (index_ok index) }
     ensures { result ≡ index_value (slice_index regs.now) index % 2 ^ 64 }
@@ -32,6 +34,7 @@ fn index_of(regs: &[u64; 16], index: Option<(Reg, u8)>) -> u64
 
 /// The address of a memory operand, `next` being the address of the next instruction.
 #[tactic(auto, unfolding(crate::specs::Processor::address))]
+#[inline(always)]
 pub fn address_of(regs: &[u64; 16], next: u64, m: Mem) -> u64
     requires { IsTrue (mem_ok m) }
     ensures { result ≡ address (slice_index regs.now) next m }
@@ -41,6 +44,7 @@ pub fn address_of(regs: &[u64; 16], next: u64, m: Mem) -> u64
         .wrapping_add(i64::from(m.disp).cast_unsigned())
 }
 
+#[inline(always)]
 fn explicit(at: u64, w: u8, write: bool) -> Span
     ensures { result ≡ span at w write }
 {
@@ -52,6 +56,7 @@ fn explicit(at: u64, w: u8, write: bool) -> Span
     }
 }
 
+#[inline]
 fn reads_operand(regs: &[u64; 16], next: u64, w: u8, rm: Rm) -> Reach
     requires { IsTrue (rm_ok rm) }
     ensures { result ≡ reach_of (operand_reads (slice_index regs.now) next w rm) }
@@ -68,6 +73,7 @@ fn reads_operand(regs: &[u64; 16], next: u64, w: u8, rm: Rm) -> Reach
     }
 }
 
+#[inline]
 fn writes_operand(regs: &[u64; 16], next: u64, w: u8, rm: Rm) -> Reach
     requires { IsTrue (rm_ok rm) }
     ensures { result ≡ reach_of (operand_writes (slice_index regs.now) next w rm) }
@@ -84,6 +90,7 @@ fn writes_operand(regs: &[u64; 16], next: u64, w: u8, rm: Rm) -> Reach
     }
 }
 
+#[inline]
 fn changes_operand(regs: &[u64; 16], next: u64, w: u8, rm: Rm, writes: bool) -> Reach
     requires { IsTrue (rm_ok rm) }
     ensures { result ≡ reach_of (operand_changes (slice_index regs.now) next w rm writes) }
@@ -108,6 +115,7 @@ fn changes_operand(regs: &[u64; 16], next: u64, w: u8, rm: Rm, writes: bool) -> 
     }
 }
 
+#[inline(always)]
 fn push_of(regs: &[u64; 16]) -> Span
     ensures { result ≡ push (slice_index regs.now) }
 {
@@ -119,6 +127,7 @@ fn push_of(regs: &[u64; 16]) -> Span
     }
 }
 
+#[inline]
 fn pushes_word(regs: &[u64; 16]) -> Reach
     ensures { result ≡ reach_of (pushes (slice_index regs.now)) }
 {
@@ -128,6 +137,7 @@ fn pushes_word(regs: &[u64; 16]) -> Reach
     }
 }
 
+#[inline]
 fn pops_word(regs: &[u64; 16]) -> Reach
     ensures { result ≡ reach_of (pops (slice_index regs.now)) }
 {
@@ -142,6 +152,7 @@ fn pops_word(regs: &[u64; 16]) -> Reach
     }
 }
 
+#[inline]
 fn calls_operand(regs: &[u64; 16], next: u64, rm: Rm) -> Reach
     requires { IsTrue (rm_ok rm) }
     ensures { result ≡ reach_of (call_accesses (slice_index regs.now) next rm) }
@@ -158,6 +169,7 @@ fn calls_operand(regs: &[u64; 16], next: u64, rm: Rm) -> Reach
     }
 }
 
+#[inline(always)]
 fn reaches_nothing() -> Reach
     ensures { result ≡ reach_of [] }
 {
@@ -169,6 +181,7 @@ fn reaches_nothing() -> Reach
 
 /// The data accesses of an instruction over these registers, `next` being the address after it. Reads come first, then
 /// writes and pushes; an instruction that reads and writes its memory operand has both.
+#[inline(always)]
 pub fn reach(i: &Instr, regs: &[u64; 16], next: u64) -> Reach
     requires { IsTrue (valid_of i.now) }
     ensures { result ≡ reach_of (accesses i.now next (slice_index regs.now)) }

@@ -80,7 +80,7 @@ returns-in-Test-clause-row c s =
 pub returns-in-Imul-clause-row : goal.returns-in-Imul-clause-row
 returns-in-Imul-clause-row c s =
     let next = ap (λ n. (c.args.cpu.now.rip + n) % 2 ^ 64) c.from.ensures in
-    rowed s c.args.cpu.now c.operate_onto-in-Imul.new.cpu c.args.m.now c.operate_onto-in-Imul.new.m c.args.i.now _ _ _ _ c.operate_onto-in-Imul.result c.in-Imul.is next (rows.row-Imul (seen s c.args.cpu.now) _ c.in-Imul.w c.in-Imul.r c.in-Imul.rm) (c.operate_onto-in-Imul.ensures.row s)
+    rowed s c.args.cpu.now c.operate_onto_apart.new.cpu c.args.m.now c.operate_onto_apart.new.m c.args.i.now _ _ _ _ c.operate_onto_apart.result c.in-Imul.is next (rows.row-Imul (seen s c.args.cpu.now) _ c.in-Imul.w c.in-Imul.r c.in-Imul.rm) (c.operate_onto_apart.ensures.row s)
 
 pub returns-in-One-clause-row : goal.returns-in-One-clause-row
 returns-in-One-clause-row c s =
@@ -95,14 +95,14 @@ returns-in-Ud2-clause-row c s =
 pub returns-in-ShiftCl-clause-row : goal.returns-in-ShiftCl-clause-row
 returns-in-ShiftCl-clause-row c s =
     let next = ap (λ n. (c.args.cpu.now.rip + n) % 2 ^ 64) c.from.ensures in
-    rowed s c.args.cpu.now c.operate-in-ShiftCl.new.cpu c.args.m.now c.operate-in-ShiftCl.new.m c.args.i.now _ _ _ _ c.operate-in-ShiftCl.result c.in-ShiftCl.is next (rows.row-ShiftCl (seen s c.args.cpu.now) _ c.in-ShiftCl.op c.in-ShiftCl.w c.low-count.result _ c.in-ShiftCl.rm c.shift_op.ensures c.low-count.ensures.value) (c.operate-in-ShiftCl.ensures.row s)
+    rowed s c.args.cpu.now c.operate_apart.new.cpu c.args.m.now c.operate_apart.new.m c.args.i.now _ _ _ _ c.operate_apart.result c.in-ShiftCl.is next (rows.row-ShiftCl (seen s c.args.cpu.now) _ c.in-ShiftCl.op c.in-ShiftCl.w c.low-count.result _ c.in-ShiftCl.rm c.shift_op.ensures c.low-count.ensures.value) (c.operate_apart.ensures.row s)
 
 pub returns-in-ShiftImm-clause-row : goal.returns-in-ShiftImm-clause-row
 returns-in-ShiftImm-clause-row c s =
     let fits : FitsSigned w64 c.in-ShiftImm.imm = search rules in
     let imm = to_z-of_z w64 c.in-ShiftImm.imm fits in
     let next = ap (λ n. (c.args.cpu.now.rip + n) % 2 ^ 64) c.from.ensures in
-    rowed s c.args.cpu.now c.operate-in-ShiftImm.new.cpu c.args.m.now c.operate-in-ShiftImm.new.m c.args.i.now _ _ _ _ c.operate-in-ShiftImm.result c.in-ShiftImm.is next (rows.row-ShiftImm (seen s c.args.cpu.now) _ c.in-ShiftImm.op c.in-ShiftImm.w c.imm_value-in-ShiftImm.result _ c.in-ShiftImm.rm c.in-ShiftImm.imm c.shift_op-in-ShiftImm.ensures (c.imm_value-in-ShiftImm.ensures.value ∙ ap (imm_value 8) imm)) (c.operate-in-ShiftImm.ensures.row s)
+    rowed s c.args.cpu.now c.operate_apart-in-ShiftImm.new.cpu c.args.m.now c.operate_apart-in-ShiftImm.new.m c.args.i.now _ _ _ _ c.operate_apart-in-ShiftImm.result c.in-ShiftImm.is next (rows.row-ShiftImm (seen s c.args.cpu.now) _ c.in-ShiftImm.op c.in-ShiftImm.w c.imm_value-in-ShiftImm.result _ c.in-ShiftImm.rm c.in-ShiftImm.imm c.shift_op-in-ShiftImm.ensures (c.imm_value-in-ShiftImm.ensures.value ∙ ap (imm_value 8) imm)) (c.operate_apart-in-ShiftImm.ensures.row s)
 
 pub returns-in-Set-clause-row : goal.returns-in-Set-clause-row
 returns-in-Set-clause-row c s =
