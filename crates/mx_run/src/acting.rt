@@ -19,6 +19,7 @@ use seal_watch::{Verdict, judge_jump};
 use x86_forms::{Instr, reach};
 
 /// Whether an instruction is a call.
+#[inline(always)]
 pub fn calls(i: &Instr) -> bool
     ensures { result ≡ is_call i.now }
 {
@@ -26,6 +27,7 @@ pub fn calls(i: &Instr) -> bool
 }
 
 /// Whether an instruction is a return.
+#[inline(always)]
 pub fn returns(i: &Instr) -> bool
     ensures { result ≡ is_return i.now }
 {
@@ -33,6 +35,7 @@ pub fn returns(i: &Instr) -> bool
 }
 
 /// Whether an instruction asks for a service.
+#[inline(always)]
 fn asks(i: &Instr) -> bool
     ensures { result ≡ is_service i.now }
 {
@@ -40,6 +43,7 @@ fn asks(i: &Instr) -> bool
 }
 
 /// The verdict on the accesses of an instruction.
+#[inline(always)]
 fn judge_accesses(p: &Parts, bare: bool, i: &Instr, next: u64) -> Option<u64>
     requires { IsTrue (valid_of i.now) }
     ensures { result ≡ unless_bare bare (strays_of i.now p.now.cpu.rip (reach_of (accesses i.now next (slice_index p.now.cpu.regs)))) }
@@ -51,6 +55,7 @@ fn judge_accesses(p: &Parts, bare: bool, i: &Instr, next: u64) -> Option<u64>
 }
 
 /// The verdict on where an instruction leads.
+#[inline(always)]
 fn judge_control(doors: Doors, i: &Instr, from: u64, to: u64) -> Option<u64>
     ensures { result ≡ unless_bare doors.bare (control_strays from to (is_call i.now) (is_return i.now) doors.outers) }
 {
@@ -63,8 +68,9 @@ fn judge_control(doors: Doors, i: &Instr, from: u64, to: u64) -> Option<u64>
     }
 }
 
-/// The instruction, and its service if it asks for one. A stop of the service leaves the parts as they were.
-fn execute_served<I: Source, O: Sink>(
+/// The same, out of the way of instructions that ask for none. A stop of the service leaves the parts as they were.
+#[inline(never)]
+fn execute_asked<I: Source, O: Sink>(
     p: &mut Parts,
     doors: Doors,
     i: &Instr,
@@ -96,8 +102,34 @@ fn execute_served<I: Source, O: Sink>(
     }
 }
 
+/// The instruction, and its service if it asks for one. A stop of the service leaves the parts as they were.
+#[inline(always)]
+fn execute_served<I: Source, O: Sink>(
+    p: &mut Parts,
+    doors: Doors,
+    i: &Instr,
+    len: u8,
+    input: &mut I,
+    out: &mut O,
+) -> Option<Stop>
+    requires valid { IsTrue (valid_of i.now) }
+    ensures acts { (bytes so_far : List ℕ) → I.left input.old ≡ Some bytes → Acts (with_service_of (ground p.old.bnd.cfg doors.outers doors.bare) i.now (state_of p.old bytes so_far) (executed (ground p.old.bnd.cfg doors.outers doors.bare) i.now ((p.old.cpu.rip + len) % 2 ^ 64) (state_of p.old bytes so_far))) (O.held out.old) so_far record { parts = p.new; left = I.left input.new; held = O.held out.new } result }
+    ensures reads { CountsReads result (I.faults input.old) (I.faults input.new) }
+    ensures writes { CountsWrites result (O.faults out.old) (O.faults out.new) }
+    ensures cfg { p.new.bnd.cfg ≡ p.old.bnd.cfg }
+    ensures frames { p.new.memory.capacity ≡ p.old.memory.capacity }
+    ensures code { KeepsCode (bytes_of p.old.memory) (bytes_of p.new.memory) }
+{
+    if asks(i) {
+        let copy = *i;
+        return execute_asked(p, doors, &copy, len, input, out);
+    }
+    execute(p, i, len)
+}
+
 /// All that an instruction of `len` bytes does: its accesses are judged, it is executed, its service is done, and then control is
 /// judged.
+#[inline(always)]
 pub fn act<I: Source, O: Sink>(
     p: &mut Parts,
     doors: Doors,

@@ -13,6 +13,7 @@ mod lines;
 mod machine;
 mod parts;
 mod placing;
+mod quick;
 mod serving;
 mod watch;
 

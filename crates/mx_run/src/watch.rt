@@ -7,6 +7,7 @@ use seal_watch::{Verdict, judge};
 use x86_forms::{Instr, Reach, Span};
 
 /// Where an access that there is strays.
+#[inline(always)]
 fn strays(i: &Instr, from: u64, s: Span) -> Option<u64>
     ensures { result ≡ strays_in i.now from (Some s) }
 {
@@ -28,6 +29,7 @@ pub fn span_strays(i: &Instr, from: u64, s: Option<Span>) -> Option<u64>
 }
 
 /// A region has each byte of a read.
+#[inline(always)]
 fn can_be_read(s: Option<Span>) -> bool
     ensures { result ≡ is_read s }
 {
@@ -43,6 +45,7 @@ fn can_be_read(s: Option<Span>) -> bool
 /// Where the accesses of the instruction at address `from` stray. They are judged one by one: the second, before which a read
 /// comes, is judged only if that read is done.
 #[tactic(auto, unfolding(obj_file::specs::Machine::reach_strays))]
+#[inline(always)]
 pub fn reach_strays(i: &Instr, from: u64, r: Reach) -> Option<u64>
     ensures { result ≡ strays_of i.now from r }
 {
