@@ -1,5 +1,5 @@
 -- A signed sum or difference is out of range exactly where its sign is wrong.
-use Rattle.std.proofs.Common.{◌≡◌, ℕ, ◌+◌, ◌-◌, ◌*◌, ◌%◌, ◌^◌, ◌<◌, ◌≤◌, inl, inr, Bool, true, false, ◌&&◌, nat_le, nat_lt, IsTrue, refl, sym, ap, ◌∙◌, arith, ℤ, pos, negsuc, ◌+ℤ◌, ◌-ℤ◌, ◌≤ℤ◌, ◌<ℤ◌}
+use Rattle.std.proofs.Common.{◌≡◌, ℕ, ◌+◌, ◌-◌, ◌%◌, ◌^◌, ◌<◌, ◌≤◌, inl, inr, Bool, true, false, ◌&&◌, nat_le, nat_lt, IsTrue, refl, sym, ◌∙◌, arith, ℤ, pos, negsuc, ◌+ℤ◌, ◌-ℤ◌, ◌≤ℤ◌, ◌<ℤ◌}
 use Rattle.std.specs.Prelude.{not, int_le, int_lt}
 use Rattle.std.proofs.lemmas.Bool.{cases_lt}
 use Rattle.std.proofs.lemmas.Bool.Decides.{nat_tests}
@@ -7,7 +7,7 @@ use Rattle.std.proofs.lemmas.Int.{ints}
 use Rattle.x86_forms.specs.Validity.{word_ok}
 use Rattle.x86_forms.specs.Arithmetic.{signed, holds_signed, is_negative, difference, low}
 use Rattle.x86_alu.specs.Alu.{sign_is_wrong}
-use Rattle.x86_alu.proofs.Widths.{by_width, signed_low, signed_high, low-word}
+use Rattle.x86_alu.proofs.Widths.{by_width, signed_low, signed_high}
 
 tests : (h a : ℕ) → a < h → nat_le h a ≡ false
 tests h a e = grind (arith, nat_tests)

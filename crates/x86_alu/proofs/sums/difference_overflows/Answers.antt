@@ -1,4 +1,4 @@
-use Rattle.std.proofs.Common.{◌∙◌, Bool}
+use Rattle.std.proofs.Common.{◌∙◌}
 use Rattle.std.specs.Prelude.{not}
 use Rattle.x86_alu.specs.Alu.{sign_is_wrong}
 use Rattle.x86_alu.proofs.Signs.{rest_out}

@@ -1,4 +1,4 @@
-use Rattle.std.proofs.Common.{◌∙◌, Bool}
+use Rattle.std.proofs.Common.{◌∙◌}
 use Rattle.x86_alu.specs.Alu.{sign_is_wrong}
 use Rattle.x86_alu.proofs.Signs.{sum_out}
 use Rattle.x86_alu.proofs.sums.sum_overflows.Goals as goal

@@ -1,5 +1,5 @@
 use Rattle.std.specs.Prelude.{length}
-use Rattle.std.proofs.Common.{◌≡◌, ◌∙◌, ap, sym, subst, refl, ◌+◌, ◌≤◌, List, ℕ, Ok, drop}
+use Rattle.std.proofs.Common.{◌∙◌, ap, sym, subst, refl, ◌+◌, ◌≤◌, List, ℕ, Ok, drop}
 use Rattle.paged_memory.specs.declared.slots.Slot.{Slot}
 use Rattle.paged_memory.specs.Paged.{Paged, bytes_of}
 use Rattle.paged_memory.specs.Answers.{write_answer, Writes}
