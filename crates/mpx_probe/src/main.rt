@@ -1,8 +1,9 @@
-//! Lets scripts reach the libraries: `decode`, `recode`, `step` and `mpx` read lines of hexadecimal bytes, `tokens`, `read` and `check`
+//! Lets scripts reach the libraries: `decode`, `recode`, `dis`, `one`, `step` and `mpx` read lines of hexadecimal bytes, `tokens`, `read` and `check`
 //! a file, and `speed` repeats one call.
 //!
 //! `decode` prints `LENGTH FORM`, `Undefined` or `Short N` for each line, and `recode` the bytes of the spelling of what it
-//! read, or the same refusals. `step` reads `CODE STATE` and prints `STATE RESULT` after one instruction that isn't of MPX: a
+//! read, or the same refusals. `dis` prints the text of the line's bytes, each of its lines ended by `|`, and `one` `LENGTH TEXT` of
+//! its first line. `step` reads `CODE STATE` and prints `STATE RESULT` after one instruction that isn't of MPX: a
 //! state is rip, the registers by number, an address, a byte of flags (CF is 1, ZF 2, SF 4, OF 8), and the 64 bytes of memory
 //! from that address on, with the lowest byte of a number first. `mpx` does the same for an MPX instruction, or tells what a near
 //! branch makes of the bounds registers: its states have the bounds registers and three windows of memory (`src/mpx.rt`).
@@ -25,7 +26,7 @@ mod speed;
 mod step;
 
 use files::{check_line, check_often, plan_often, read_line, tokens_line};
-use instructions::{decode_line, recode_line};
+use instructions::{decode_line, front_line, listing_line, recode_line};
 use layout::layout_line;
 use memory::{gaps_often, heap_often, load_often, store_often, touch_pages};
 use mpx::mpx_line;
@@ -60,6 +61,8 @@ fn each_line<R: Input + Print + Alloc<A = Global>>(rt: &R, command: &str) -> io:
     let answer = match command {
         "decode" => Answer::Form,
         "recode" => Answer::Bytes,
+        "dis" => Answer::Listing,
+        "one" => Answer::Front,
         "step" => Answer::State,
         "mpx" => Answer::Bounds,
         "layout" => Answer::Layout,
@@ -78,6 +81,8 @@ fn each_line<R: Input + Print + Alloc<A = Global>>(rt: &R, command: &str) -> io:
 enum Answer {
     Form,
     Bytes,
+    Listing,
+    Front,
     State,
     Bounds,
     Layout,
@@ -87,6 +92,8 @@ fn answer_line(alloc: Global, answer: Answer, line: &str) -> Result<String, Allo
     match answer {
         Answer::Form => decode_line(alloc, line),
         Answer::Bytes => recode_line(alloc, line),
+        Answer::Listing => listing_line(alloc, line),
+        Answer::Front => front_line(alloc, line),
         Answer::State => step_line(alloc, line),
         Answer::Bounds => mpx_line(alloc, line),
         Answer::Layout => layout_line(alloc, line),
