@@ -39,6 +39,7 @@ Has x [] = ⊥
 Has x (y ∷ more) = (x ≡ y) ⊎ Has x more
 
 has_more : (x y : Bind) (all : List Bind) → Has x all → Has x (all ++ y ∷ [])
+has_more x y [] h = absurd h
 has_more x y (z ∷ more) (inl e) = inl e
 has_more x y (z ∷ more) (inr h) = inr (has_more x y more h)
 
@@ -63,7 +64,7 @@ one_more bind count order h n lt = by (nat_lt n count) refl
 
 as_many : {A : Type 0} (all : List A) (x : A) → length (all ++ x ∷ []) ≡ length all + 1
 as_many [] x = refl
-as_many (y ∷ more) x = ap suc (as_many more x)
+as_many (y ∷ more) x = let same : suc (length more + 1) ≡ suc (length more) + 1 = omega arith in ap suc (as_many more x) ∙ same
 
 set_as_many : {A : Type 0} (all : List A) (at : ℕ) (x : A) → length (slice_set all at x) ≡ length all
 set_as_many [] at x = refl
@@ -159,6 +160,7 @@ placed_with None s more h at = h at
 placed_with (Some x) s more h at = placed_behind at s x more (h (at + 1))
 
 placed : (state : State) (s : Subject) (bind : Bind) (order : List Bind) → subject_of bind ≡ Some s → has_symbol state s ≡ true → Has bind order → (at : ℕ) → Placed at s (named_from state order)
+placed state s bind [] is has h at = absurd h
 placed state s bind (y ∷ more) is has (inl e) at = subst (λ (found : Option Subject). Placed at s (with_subject found (named_from state more))) (sym found) (placed_here at s (named_from state more))
   where
     found : if_symbol state (subject_of y) ≡ Some s
