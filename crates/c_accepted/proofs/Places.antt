@@ -10,21 +10,21 @@ use Rattle.c_accepted.specs.Symbols.{Lacks, AllDiffer}
 
 pub place_within : (at : ℕ) (s : Subject) (named : List Subject) (p : ℕ) → place_from at s named ≡ Some p → (at ≤ p) × (p < at + length named)
 place_within at s [] p h = cc
-place_within at s (x ∷ more) p h = by (is_same s x) h
+place_within at s (x ∷ more) p h = by (is_same s x) (λ e. place_within (at + 1) s more p e) h
   where
-    by : (b : Bool) → (if b then Some at else place_from (at + 1) s more) ≡ Some p → (at ≤ p) × (p < at + length (x ∷ more))
-    by true e = let same : at ≡ p = cc in (omega (arith, same), omega (arith, same))
-    by false e = let rest = place_within (at + 1) s more p e in let low = rest.0 in let high = rest.1 in (omega (arith, low), omega (arith, high))
+    by : (b : Bool) → (place_from (at + 1) s more ≡ Some p → (at + 1 ≤ p) × (p < at + 1 + length more)) → (if b then Some at else place_from (at + 1) s more) ≡ Some p → (at ≤ p) × (p < at + length (x ∷ more))
+    by true later e = let same : at ≡ p = cc in (omega (arith, same), omega (arith, same))
+    by false later e = let low = (later e).0 in let high = (later e).1 in (omega (arith, low), omega (arith, high))
 
 same_function : (at : ℕ) (named : List Subject) (i j p : ℕ) → place_from at (Function i) named ≡ Some p → place_from at (Function j) named ≡ Some p → i ≡ j
 same_function at [] i j p h k = cc
-same_function at (Function m ∷ more) i j p h k = by (i == m) (j == m) refl refl h k
+same_function at (Function m ∷ more) i j p h k = by (i == m) (j == m) (λ h k. same_function (at + 1) more i j p h k) refl refl h k
   where
-    by : (b c : Bool) → (i == m) ≡ b → (j == m) ≡ c → (if b then Some at else place_from (at + 1) (Function i) more) ≡ Some p → (if c then Some at else place_from (at + 1) (Function j) more) ≡ Some p → i ≡ j
-    by true true e f h k = eqb-true i m e ∙ sym (eqb-true j m f)
-    by true false e f h k = let same : at ≡ p = cc in let later = (place_within (at + 1) (Function j) more p k).0 in absurd (omega (arith, same, later))
-    by false true e f h k = let same : at ≡ p = cc in let later = (place_within (at + 1) (Function i) more p h).0 in absurd (omega (arith, same, later))
-    by false false e f h k = same_function (at + 1) more i j p h k
+    by : (b c : Bool) → (place_from (at + 1) (Function i) more ≡ Some p → place_from (at + 1) (Function j) more ≡ Some p → i ≡ j) → (i == m) ≡ b → (j == m) ≡ c → (if b then Some at else place_from (at + 1) (Function i) more) ≡ Some p → (if c then Some at else place_from (at + 1) (Function j) more) ≡ Some p → i ≡ j
+    by true true behind e f h k = eqb-true i m e ∙ sym (eqb-true j m f)
+    by true false behind e f h k = let same : at ≡ p = cc in let later = (place_within (at + 1) (Function j) more p k).0 in absurd (omega (arith, same, later))
+    by false true behind e f h k = let same : at ≡ p = cc in let later = (place_within (at + 1) (Function i) more p h).0 in absurd (omega (arith, same, later))
+    by false false behind e f h k = behind h k
 same_function at (Global m ∷ more) i j p h k = same_function (at + 1) more i j p h k
 same_function at (Literals ∷ more) i j p h k = same_function (at + 1) more i j p h k
 
@@ -87,19 +87,19 @@ is_it Literals Literals h = refl
 -- at its place it is found, whatever comes behind all
 pub found_at : {A : Type 0} (f : Subject → A) (rest : List A) (at : ℕ) (s : Subject) (named : List Subject) (k : ℕ) → place_from at s named ≡ Some (at + k) → slice_get (map f named ++ rest) k ≡ Some (f s)
 found_at f rest at s [] k h = cc
-found_at {A} f rest at s (x ∷ more) k h = by (is_same s x) refl h
+found_at {A} f rest at s (x ∷ more) k h = by (is_same s x) (λ k e. found_at f rest (at + 1) s more k e) refl h
   where
-    behind : (k : ℕ) → place_from (at + 1) s more ≡ Some (at + k) → slice_get (map f (x ∷ more) ++ rest) k ≡ Some (f s)
-    behind zero e = let late = (place_within (at + 1) s more (at + 0) e).0 in absurd (omega (arith, late))
-    behind (suc k) e = let same : at + suc k ≡ at + 1 + k = omega arith in found_at f rest (at + 1) s more k (e ∙ ap Some same)
+    behind : (k : ℕ) → ((k : ℕ) → place_from (at + 1) s more ≡ Some (at + 1 + k) → slice_get (map f more ++ rest) k ≡ Some (f s)) → place_from (at + 1) s more ≡ Some (at + k) → slice_get (map f (x ∷ more) ++ rest) k ≡ Some (f s)
+    behind zero later e = let late = (place_within (at + 1) s more (at + 0) e).0 in absurd (omega (arith, late))
+    behind (suc k) later e = let same : at + suc k ≡ at + 1 + k = omega arith in later k (e ∙ ap Some same)
 
     here : (k : ℕ) → is_same s x ≡ true → at ≡ at + k → slice_get (map f (x ∷ more) ++ rest) k ≡ Some (f s)
     here zero same e = ap (λ y. Some (f y)) (sym (is_it s x same))
     here (suc k) same e = absurd (omega (arith, e))
 
-    by : (b : Bool) → is_same s x ≡ b → (if b then Some at else place_from (at + 1) s more) ≡ Some (at + k) → slice_get (map f (x ∷ more) ++ rest) k ≡ Some (f s)
-    by true same e = let there : at ≡ at + k = cc in here k same there
-    by false same e = behind k e
+    by : (b : Bool) → ((k : ℕ) → place_from (at + 1) s more ≡ Some (at + 1 + k) → slice_get (map f more ++ rest) k ≡ Some (f s)) → is_same s x ≡ b → (if b then Some at else place_from (at + 1) s more) ≡ Some (at + k) → slice_get (map f (x ∷ more) ++ rest) k ≡ Some (f s)
+    by true later same e = let there : at ≡ at + k = cc in here k same there
+    by false later same e = behind k later e
 
 pub next_found : {A : Type 0} (f : Subject → A) (named : List Subject) (y : A) → slice_get (map f named ++ y ∷ []) (length named) ≡ Some y
 next_found f [] y = refl

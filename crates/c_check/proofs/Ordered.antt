@@ -1,5 +1,5 @@
 -- Each global and function that a source knows stands in the order of the first declarations, so each that is defined or used has a symbol.
-use Rattle.std.proofs.Common.{◌≡◌, ◌⊎◌, inl, inr, refl, sym, ap, ◌∙◌, subst, ℕ, zero, suc, ◌+◌, ◌<◌, ◌≤◌, ◌==◌, ◌||◌, min, nat_lt, if◌then◌else◌, Bool, true, false, List, [], ◌∷◌, ◌++◌, map, length, slice_set, arith}
+use Rattle.std.proofs.Common.{◌≡◌, ◌⊎◌, inl, inr, refl, sym, ap, ◌∙◌, subst, ℕ, zero, suc, ◌+◌, ◌<◌, ◌≤◌, nat_lt, if◌then◌else◌, Bool, true, false, List, [], ◌∷◌, ◌++◌, map, length, slice_set, arith}
 use Rattle.std.specs.Prelude.{Option, None, Some, is_some, slice_get}
 use Rattle.std.proofs.lemmas.Bool.{eq-eqb, ltb-true, ltb-false}
 use Rattle.mx_base.specs.declared.places.Place.{Place}
@@ -8,7 +8,6 @@ use Rattle.c_tree.specs.declared.tree.Item.{Item}
 use Rattle.c_tree.specs.declared.tree.ItemKind.{ItemKind}
 use Rattle.c_tree.specs.declared.tree.ItemKind.TheVariants as k
 use Rattle.c_tree.specs.declared.tree.Decl.{Decl}
-use Rattle.c_tree.specs.declared.tree.Init.{Init}
 use Rattle.c_tree.specs.declared.tree.Stmt.{Stmt}
 use Rattle.c_types.specs.Types.{CType}
 use Rattle.c_check_rules.specs.declared.names.Scope.{Scope}
@@ -20,16 +19,16 @@ use Rattle.c_check_rules.specs.Names.{numbered, variable_at, function_at}
 use Rattle.c_check_statements.specs.declared.decls.Use.{Use}
 use Rattle.c_check_statements.specs.declared.initialisers.Filled.TheVariants as f
 use Rattle.c_check_statements.specs.declared.state.State.{State}
-use Rattle.c_check_statements.specs.Walks.{Walk, ◌then◌, walk_all}
+use Rattle.c_check_statements.specs.Walks.{◌then◌, walk_all}
 use Rattle.c_check_statements.specs.Declarations.{introduced, declares, global_declared, function_declared, function_number, number_in, put_variable, put_function, with_first, with_variable, with_function}
 use Rattle.c_check_statements.specs.Initialisers.{maybe_fills}
 use Rattle.c_check_statements.specs.Statements.{maybe_statement}
-use Rattle.c_check_statements.specs.Functions.{parameter, ends_function, enter_function, leave_function, function_inner, function_after, function_walk}
-use Rattle.c_check_statements.specs.Sources.{is_definition, global_walk, item_kind, item, items, at_start}
+use Rattle.c_check_statements.specs.Functions.{parameter, ends_function, enter_function, leave_function, function_inner, function_after}
+use Rattle.c_check_statements.specs.Sources.{is_definition, item_kind, item, items, at_start}
 use Rattle.c_check.specs.Accepted.{after}
 use Rattle.c_check.specs.declared.symbols.Subject.{Subject}
 use Rattle.c_check.specs.declared.symbols.Subject.TheVariants.{Global, Function as OfFunction, Literals}
-use Rattle.c_check.specs.Symbols.{has_symbol, subject_of, if_symbol, with_subject, named_from, named, is_same, place_from, number_of, HasNumber}
+use Rattle.c_check.specs.Symbols.{has_symbol, subject_of, if_symbol, with_subject, named_from, named, is_same, place_from, HasNumber}
 use Rattle.c_check.proofs.KeptNames.{Known, known_of, Keeps, kept_then, kept_node, kept_inside, kept_and_then, kept_parameter, kept_maybe_fills, kept_maybe_statement, kept_struct}
 
 -- ---- the order
