@@ -33,6 +33,7 @@ pub use laws::{
 };
 pub use legacy_laws::legacy_events_see_no_sealed_byte;
 pub use lists::{Bytes, Text};
+pub use names::{is_c_name, is_data_sig, is_function_sig};
 pub use object::{Fix, Fixes, Object, Spot3, Spots3, Symbol, Symbols};
 pub use object_reader::read_object;
 pub use object_writer::write_object;
