@@ -1,0 +1,13 @@
+pub mod Same
+pub mod Kept
+pub mod Requests
+pub mod Relations
+pub mod Rooted
+pub mod BySteps
+pub mod Pieces
+pub mod Fewer
+pub mod Giving
+pub mod Ends
+pub mod Layers
+pub mod Trials
+pub mod Counted

@@ -1,0 +1,5 @@
+pub mod Legacy
+pub mod OfC
+pub mod Pieces
+pub mod Laws
+pub mod Trial
