@@ -109,8 +109,8 @@ mov a (Number n) = mov_number a n
 mov a Symbol = mov_symbol a
 mov a b = mov_registers a b
 
-unfoldable pub test : Operand → Operand → Option Choice
-test a b = to i.Test a b
+unfoldable pub test_operands : Operand → Operand → Option Choice
+test_operands a b = to i.Test a b
 
 unfoldable pub imul : Operand → Operand → Option Choice
 imul (Register w r) b = option_map (λ t. fit (i.Imul w r t.rm) t.fits) (beside w b)
@@ -254,7 +254,7 @@ binary m.Movzx a b = movzx a b
 binary m.Movsx a b = movsx a b
 binary m.Lea a b = lea a b
 binary (m.Alu op) a b = alu op a b
-binary m.Test a b = test a b
+binary m.Test a b = test_operands a b
 binary m.Imul a b = imul a b
 binary (m.Shift op) a b = shift op a b
 binary m.Bndmk a b = bndmk a b

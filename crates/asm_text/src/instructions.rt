@@ -246,9 +246,9 @@ fn mov(a: Operand, b: Operand) -> Option<Choice>
     }
 }
 
-#[tactic(auto, unfolding(crate::specs::Instructions::test, crate::specs::Instructions::to))]
+#[tactic(auto, unfolding(crate::specs::Instructions::test_operands, crate::specs::Instructions::to))]
 fn test_registers(a: Operand, b: Operand) -> Option<Choice>
-    ensures { result ≡ spec.test a b }
+    ensures { result ≡ spec.test_operands a b }
 {
     match b {
         Operand::Register { w, r } => {
