@@ -67,11 +67,11 @@ stub_onward sig target at fits there here =
     let tail : ℕ = at + stub_body_size sig in
     let last : Code = jumps target tail ∷ stub_tail sig in
     onward_append (stub_keeps tail) (stub_writes ++ (stub_clears sig ++ last)) refl
-      (onward_append stub_writes (stub_clears sig ++ last) refl
-      (onward_append (stub_clears sig) last
-        (onward_append (extend_parameters 0 sig.parameters) (zeros ++ inits) (parameters_onward 0 sig.parameters) (onward_append zeros inits (clears_onward (0 ∷ 10 ∷ 11 ∷ not_carrying (length sig.parameters))) (inits_onward 0 (pointers sig.parameters) fits.pointed)))
-      (both_true (is_onward (JmpRel true (way target tail))) (all_onward (stub_tail sig)) (way_onward (way target tail) target tail refl (omega arith))
-        (onward_append (extends_result sig.result) (returns ∷ []) (result_onward sig.result) refl))))
+    (onward_append stub_writes (stub_clears sig ++ last) refl
+    (onward_append (stub_clears sig) last
+    (onward_append (extend_parameters 0 sig.parameters) (zeros ++ inits) (parameters_onward 0 sig.parameters) (onward_append zeros inits (clears_onward (0 ∷ 10 ∷ 11 ∷ not_carrying (length sig.parameters))) (inits_onward 0 (pointers sig.parameters) fits.pointed)))
+    (both_true (is_onward (JmpRel true (way target tail))) (all_onward (stub_tail sig)) (way_onward (way target tail) target tail refl (omega arith))
+    (onward_append (extends_result sig.result) (returns ∷ []) (result_onward sig.result) refl))))
 
 outer_onward : (sig : Signature) (inner at : ℕ) → all_onward (outer_gate sig inner at) ≡ true
 outer_onward sig inner at =
@@ -79,9 +79,9 @@ outer_onward sig inner at =
     let inits : Code = init_from 1 (result_pointers sig.result) in
     let last : Code = outer_clears sig ++ (returns ∷ []) in
     onward_append (outer_head sig) (calls inner (at + size_of_code (outer_head sig) + 6) ∷ (outer_restores ++ last)) (onward_append outer_keeps (extend_parameters 0 sig.parameters) refl (parameters_onward 0 sig.parameters))
-      (onward_append outer_restores last refl
-      (onward_append (outer_clears sig) (returns ∷ [])
-        (onward_append (extends_result sig.result) (zeros ++ inits) (result_onward sig.result) (onward_append zeros inits refl (inits_onward 1 (result_pointers sig.result) (one_result sig.result)))) refl))
+    (onward_append outer_restores last refl
+    (onward_append (outer_clears sig) (returns ∷ [])
+    (onward_append (extends_result sig.result) (zeros ++ inits) (result_onward sig.result) (onward_append zeros inits refl (inits_onward 1 (result_pointers sig.result) (one_result sig.result)))) refl))
 
 -- ---- whole gates
 

@@ -194,8 +194,8 @@ stub_clears_sound sig fits =
     let zeros : Code = clear_all (0 ∷ 10 ∷ 11 ∷ not_carrying (length sig.parameters)) in
     let inits : Code = init_from 0 (pointers sig.parameters) in
     let tail : is_sound (extend_parameters 0 sig.parameters ++ (zeros ++ inits)) ≡ true = sound_append (extend_parameters 0 sig.parameters) (zeros ++ inits) (parameters_sound 0 sig.parameters (omega arith))
-        (sound_append zeros inits
-          (sound_append (clear_all (0 ∷ 10 ∷ 11 ∷ [])) (clear_all (not_carrying (length sig.parameters))) scratch_sound (rest_sound (length sig.parameters) few)) (inits_sound 0 (pointers sig.parameters) (omega arith) fits.pointed)) in
+    (sound_append zeros inits
+    (sound_append (clear_all (0 ∷ 10 ∷ 11 ∷ [])) (clear_all (not_carrying (length sig.parameters))) scratch_sound (rest_sound (length sig.parameters) few)) (inits_sound 0 (pointers sig.parameters) (omega arith) fits.pointed)) in
     tail
 
 pub outer_clears_sound : (sig : Signature) → is_sound (outer_clears sig) ≡ true
@@ -211,9 +211,9 @@ stub_sound sig target at fits there here =
     let tail : ℕ = at + stub_body_size sig in
     let last : Code = jumps target tail ∷ stub_tail sig in
     sound_append (stub_keeps tail) (stub_writes ++ (stub_clears sig ++ last)) (keeps_sound tail (omega arith))
-      (sound_append stub_writes (stub_clears sig ++ last) writes_sound (sound_append (stub_clears sig) last (stub_clears_sound sig fits)
-      (sound_append (jumps target tail ∷ []) (stub_tail sig) (jump_sound target tail there.1 (omega arith))
-        (sound_append (extends_result sig.result) (returns ∷ []) (result_sound sig.result) returns_sound))))
+    (sound_append stub_writes (stub_clears sig ++ last) writes_sound (sound_append (stub_clears sig) last (stub_clears_sound sig fits)
+    (sound_append (jumps target tail ∷ []) (stub_tail sig) (jump_sound target tail there.1 (omega arith))
+    (sound_append (extends_result sig.result) (returns ∷ []) (result_sound sig.result) returns_sound))))
 
 pub few_head : (sig : Signature) → HasRegisters sig → size_of_code (outer_head sig) ≤ 49
 few_head sig fits =
@@ -231,5 +231,5 @@ outer_sound sig inner at fits there here =
     let next : ℕ = at + size_of_code (outer_head sig) + 6 in
     let last : Code = outer_clears sig ++ (returns ∷ []) in
     sound_append (outer_head sig) (calls inner next ∷ (outer_restores ++ last)) (sound_append outer_keeps (extend_parameters 0 sig.parameters) outer_keeps_sound (parameters_sound 0 sig.parameters (omega arith)))
-      (sound_append (calls inner next ∷ []) (outer_restores ++ last) (call_sound inner next (omega arith) (omega arith))
-      (sound_append outer_restores last outer_restores_sound (sound_append (outer_clears sig) (returns ∷ []) (outer_clears_sound sig) returns_sound)))
+    (sound_append (calls inner next ∷ []) (outer_restores ++ last) (call_sound inner next (omega arith) (omega arith))
+    (sound_append outer_restores last outer_restores_sound (sound_append (outer_clears sig) (returns ∷ []) (outer_clears_sound sig) returns_sound)))

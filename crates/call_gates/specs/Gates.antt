@@ -17,18 +17,25 @@ use Rattle.call_sigs.specs.Signatures.{Signature, Result, Nothing, Pointer, Of, 
 
 abbrev pub rax : ℕ
 rax = 0
+
 abbrev pub rcx : ℕ
 rcx = 1
+
 abbrev pub rdx : ℕ
 rdx = 2
+
 abbrev pub rsp : ℕ
 rsp = 4
+
 abbrev pub rsi : ℕ
 rsi = 6
+
 abbrev pub rdi : ℕ
 rdi = 7
+
 abbrev pub r10 : ℕ
 r10 = 10
+
 abbrev pub r11 : ℕ
 r11 = 11
 
@@ -41,10 +48,13 @@ in_reg n = InReg (reg n)
 -- the four cells: the control stack pointer while legacy code runs, the legacy stack pointer, the data stack pointer, the depth
 abbrev pub control_cell : ℕ
 control_cell = 0x7000_0000
+
 abbrev pub legacy_cell : ℕ
 legacy_cell = 0x7000_0008
+
 abbrev pub data_cell : ℕ
 data_cell = 0x7000_0010
+
 abbrev pub depth_cell : ℕ
 depth_cell = 0x7000_0018
 

@@ -46,7 +46,7 @@ module _ (k : Linkage) (own : Callee) (left : LeftByCalls NoMoreTurns own) where
       cond_both (is_legacy l.processor.rip) _ _ (λ r. Fewer l.world.turns r)
       (λ _. by_turn l.world (λ u. stepped u (legacy_run k own n) (event (ground k) (as_state l))) (λ u less. by_event u (legacy_run k own n) (event (ground k) (as_state l)) (legacy_fewer n)) l.world.turns refl)
       (λ _. cond_both (l.processor.rip == landing) _ _ (λ r. Fewer l.world.turns r) (λ _. let z : l.world.turns ≤ l.world.turns = omega arith in z)
-        (λ _. by_door _ (legacy_run k own n) l l.world.turns _ (legacy_fewer n) (left (entered_at l.processor.rip) _ (lent l))))
+      (λ _. by_door _ (legacy_run k own n) l l.world.turns _ (legacy_fewer n) (left (entered_at l.processor.rip) _ (lent l))))
 
   by_finish : (result : Result) (sp n : ℕ) (r : Outcome) → Fewer n r → Fewer n (finished result sp r)
   by_finish result sp n (Comes v w) few = more w.turns n _ few (by_turn w _ (λ u less. let z : u.turns ≤ u.turns = omega arith in z) w.turns refl)

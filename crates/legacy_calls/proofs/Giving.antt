@@ -53,7 +53,7 @@ module _ (k : Linkage) (own : Callee) (gives : FramesGivenBack own) where
       cond_both (is_legacy l.processor.rip) _ _ (λ r. Gives l.world.data_sp r)
       (λ _. by_turn l.world (λ u. stepped u (legacy_run k own n) (event (ground k) (as_state l))) (λ u e. moved u.data_sp l.world.data_sp _ e (by_event u (legacy_run k own n) (event (ground k) (as_state l)) (legacy_gives n))) l.world.turns)
       (λ _. cond_both (l.processor.rip == landing) _ _ (λ r. Gives l.world.data_sp r) (λ _. refl)
-        (λ _. by_door _ (legacy_run k own n) l l.world.data_sp _ (legacy_gives n) (gives (entered_at l.processor.rip) _ (lent l))))
+      (λ _. by_door _ (legacy_run k own n) l l.world.data_sp _ (legacy_gives n) (gives (entered_at l.processor.rip) _ (lent l))))
 
   by_finish : (result : Result) (sp n : ℕ) (r : Outcome) → Gives n r → Gives n (finished result sp r)
   by_finish result sp n (Comes v w) same = moved w.data_sp n _ same (by_turn w _ (λ u e. e) w.turns)

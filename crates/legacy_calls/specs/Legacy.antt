@@ -156,7 +156,7 @@ legacy_run k own (suc n) l =
     if is_legacy l.processor.rip then taking_turn l.world (λ u. stepped u (legacy_run k own n) (event (ground k) (as_state l)))
     else if l.processor.rip == landing then landed l
     else came_back k (k.own (entered_at l.processor.rip)).result (legacy_run k own n) l
-      (own (entered_at l.processor.rip) (arguments_from 0 0 (k.own (entered_at l.processor.rip)).parameters l.processor) (lent l))
+    (own (entered_at l.processor.rip) (arguments_from 0 0 (k.own (entered_at l.processor.rip)).parameters l.processor) (lent l))
 
 -- at the landing a turn is taken, and the stack of legacy code is as before the call
 abbrev pub finished : Result → (sp : ℕ) → Outcome → Outcome

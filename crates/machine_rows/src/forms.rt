@@ -2,6 +2,9 @@
 //! `cut:N` leaves the first N, `N=BYTES` sets those from offset N on, both numbers in decimal digits, and anything else are further bytes.
 //! Bytes are pairs of hexadecimal digits.
 
+ghost use Rattle.obj_file.specs.Image.{IsImage};
+ghost use Rattle.obj_file.specs.Object.{IsObject};
+
 use crate::digits::{append_digits, bytes_of};
 use hex::encode;
 use obj_file::{FormFault, Image, Object, read_image, read_object, write_image, write_object};
@@ -64,7 +67,9 @@ pub fn object_line(
     }
 }
 
-fn object_told(alloc: Global, object: &Object, told: Told) -> Result<String, AllocError> {
+fn object_told(alloc: Global, object: &Object, told: Told) -> Result<String, AllocError>
+    requires { IsObject object.now }
+{
     match told {
         Told::Whole => String::from_str(alloc, "fine"),
         Told::Parts => object_parts(alloc, object),
@@ -100,7 +105,9 @@ pub fn image_line(
     }
 }
 
-fn image_told(alloc: Global, image: &Image, told: Told) -> Result<String, AllocError> {
+fn image_told(alloc: Global, image: &Image, told: Told) -> Result<String, AllocError>
+    requires { IsImage image.now }
+{
     match told {
         Told::Whole => String::from_str(alloc, "fine"),
         Told::Parts => image_parts(alloc, image),

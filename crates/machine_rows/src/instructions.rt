@@ -4,7 +4,7 @@ use crate::digits::bytes_of;
 use std::alloc::{AllocError, Global};
 use x86_decode::{Undecoded, decode};
 use x86_encode::encode;
-use x86_forms::Instr;
+use x86_forms::{Instr, valid};
 
 /// The length of the instruction at the front of some bytes, and the instruction; or why there is none.
 pub fn decode_line(alloc: Global, given: &str) -> Result<String, AllocError> {
@@ -20,7 +20,7 @@ pub fn decode_line(alloc: Global, given: &str) -> Result<String, AllocError> {
 pub fn spelling_line(alloc: Global, given: &str) -> Result<String, AllocError> {
     let bytes = bytes_of(alloc, given)?;
     match decode(bytes.as_slice()) {
-        Ok((instr, _)) if encode(&instr).as_slice() == bytes.as_slice() => {
+        Ok((instr, _)) if valid(&instr) && encode(&instr).as_slice() == bytes.as_slice() => {
             format!(in alloc; "{instr:?}")
         }
         _ => String::from_str(alloc, "no spelling"),

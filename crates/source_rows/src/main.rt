@@ -55,13 +55,13 @@ fn judge_file<R: Files + Print + Alloc<A = Global>>(
     count: &mut Count,
 ) -> io::Result<()> {
     let text = fs::read_to_string(rt, name)?;
-    let mut question = "";
+    let mut question = String::new(rt.alloc());
     for line in text.as_str().lines() {
         if let Some(asked) = line.strip_prefix("= ") {
-            question = asked;
+            question = String::from_str(rt.alloc(), asked)?;
         } else if !line.is_empty() && !line.starts_with('#') {
             count.rows = count.rows.saturating_add(1);
-            if !judge(rt, question, line)? {
+            if !judge(rt, question.as_str(), line)? {
                 count.different = count.different.saturating_add(1);
             }
         }
