@@ -1,0 +1,7 @@
+pub mod Pieces
+pub mod Steps
+pub mod Homes
+pub mod Asked
+pub mod Bytes
+pub mod Homing
+pub mod Entry
