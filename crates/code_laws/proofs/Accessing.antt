@@ -38,7 +38,7 @@ use Rattle.obj_file.specs.Runs.{c_accesses_among}
 use Rattle.obj_file.specs.Stored.{Stored, stored_read, stored_write}
 use Rattle.code_laws.specs.Views.{View, On, unless_refused, with_word}
 use Rattle.step_code.specs.Pieces.{read_instr}
-use Rattle.code_laws.specs.Seen.{Setting, IsSetting, ground, Holds, state_of}
+use Rattle.code_laws.specs.Seen.{Setting, IsSetting, machine_of, Holds, state_of}
 use Rattle.code_laws.proofs.Events.{inside_code}
 use Rattle.code_laws.proofs.Leading.{executed_reads, executed_misread, executed_writes, executed_miswritten, After, Here, goes_on, halts_here, strays_here}
 use Rattle.code_laws.specs.Runs.{whole_of}
@@ -113,7 +113,7 @@ module _ (S : Setting) (ok : IsSetting S) where
       let same = same_number v y a size h.seen.memory few some none fine in
       goes_on S ok v (record v { processor = c; world = read_noted size v.world a }) y y n next i (record { write = false; at = a; size = size } ∷ []) here
       (from ∙ none) (ap (c_accesses_among i) q.spans ∙ c_noted a size false i q.c)
-      (executed_reads (ground S) i next (state_of v y n) a size (number_at size y.bytes a) false q.rest c q.is_row (rw fine refl)
+      (executed_reads (machine_of S) i next (state_of v y n) a size (number_at size y.bytes a) false q.rest c q.is_row (rw fine refl)
       (q.ends (number_at size y.bytes a) (number_at-lt size y.bytes a h.seen.memory.each_byte) ∙ ap (λ (x : ℕ). let t : Processor = at_next v.processor next in Ends (with_word t r (value x))) same))
       ahead refl refl
       (record {
@@ -131,7 +131,7 @@ module _ (S : Setting) (ok : IsSetting S) where
         };
       }))
       (λ x strays. strays_here S ok v y n next x i here (from ∙ strays))
-      (λ x none misses. halts_here S ok v y n next i (stop.Unmapped x) _ here (from ∙ none) (executed_misread (ground S) i next (state_of v y n) a size x false q.rest q.is_row (rw misses refl)) refl h.seen.memory.store)
+      (λ x none misses. halts_here S ok v y n next i (stop.Unmapped x) _ here (from ∙ none) (executed_misread (machine_of S) i next (state_of v y n) a size x false q.rest q.is_row (rw misses refl)) refl h.seen.memory.store)
 
   -- a write of so many bytes at an address, of the number x, whose low bytes are those of what is written
   pub record WritesAt (v : View) (next : ℕ) (i : Instr) (a size x : ℕ) : Type 0 where
@@ -184,7 +184,7 @@ module _ (S : Setting) (ok : IsSetting S) where
       (λ none fine.
       goes_on S ok v (record v { processor = at_next v.processor next; world = number_written size v.world a x }) y z n next i (record { write = true; at = a; size = size } ∷ []) here
       (from ∙ none) (ap (c_accesses_among i) q.spans ∙ c_noted a size true i q.c)
-      (executed_writes (ground S) i next (state_of v y n) a size q.value false (at_next v.processor next) z q.is_row (rw fine (ap (λ (m : Bytes). let t : Result Stored _ = Ok (record { bytes = m; bounds = y.bounds }) in t) (q.same y.bytes))))
+      (executed_writes (machine_of S) i next (state_of v y n) a size q.value false (at_next v.processor next) z q.is_row (rw fine (ap (λ (m : Bytes). let t : Result Stored _ = Ok (record { bytes = m; bounds = y.bounds }) in t) (q.same y.bytes))))
       ahead refl refl
       (record {
         memory = written_open v.slots v.world y a size x h.seen.memory few none (written_within size a some (omega arith) fine);
@@ -194,7 +194,7 @@ module _ (S : Setting) (ok : IsSetting S) where
         far = h.seen.far;
       }))
       (λ x strays. strays_here S ok v y n next x i here (from ∙ strays))
-      (λ x none misses. halts_here S ok v y n next i (stop.Unmapped x) _ here (from ∙ none) (executed_miswritten (ground S) i next (state_of v y n) a size q.value x false (Ends (at_next v.processor next)) q.is_row (rw misses refl)) refl h.seen.memory.store)
+      (λ x none misses. halts_here S ok v y n next i (stop.Unmapped x) _ here (from ∙ none) (executed_miswritten (machine_of S) i next (state_of v y n) a size q.value x false (Ends (at_next v.processor next)) q.is_row (rw misses refl)) refl h.seen.memory.store)
 
   -- ---- each type
 

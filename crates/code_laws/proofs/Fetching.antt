@@ -9,7 +9,7 @@ use Rattle.obj_file.specs.Machine.{reading_at, fetched_size}
 use Rattle.obj_file.specs.Stored.{Stored}
 use Rattle.obj_file.proofs.StoredBytes.{bytes-list_at}
 use Rattle.code_laws.specs.Views.{View}
-use Rattle.code_laws.specs.Seen.{Setting, IsSetting, ground, Seen, state_of}
+use Rattle.code_laws.specs.Seen.{Setting, IsSetting, machine_of, Seen, state_of}
 use Rattle.code_laws.specs.Laid.{Stands}
 use Rattle.code_laws.proofs.Events.{Next, inside_code}
 
@@ -24,7 +24,7 @@ fetched : (a : ℕ) → 0x0100_0000 ≤ a → a < 0x1100_0000 → fetched_size a
 fetched a low high = rw (inside_code a low high) refl
 
 module _ (S : Setting) (ok : IsSetting S) where
-  pub next_of : (v : View) (y : Stored) (n : ℕ) (i : Instr) (next : ℕ) → Seen S v y → Stands S.code v.processor.rip i next → Next (ground S) refl (state_of v y n) i next
+  pub next_of : (v : View) (y : Stored) (n : ℕ) (i : Instr) (next : ℕ) → Seen S v y → Stands S.code v.processor.rip i next → Next (machine_of S) refl (state_of v y n) i next
   unfolding reading_at
   next_of v y n i next seen st =
       let short = spelling-short i st.valid in

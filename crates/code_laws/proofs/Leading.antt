@@ -17,7 +17,7 @@ use Rattle.obj_file.specs.Machine.{Misses, Invalid, Ground, State, Does, Halts, 
 use Rattle.obj_file.specs.Runs.{c_accesses_by, c_accesses_among}
 use Rattle.obj_file.specs.Stored.{Stored}
 use Rattle.code_laws.specs.Views.{View, Came, On, Turn, Over, jumped}
-use Rattle.code_laws.specs.Seen.{Setting, IsSetting, ground, Seen, state_of}
+use Rattle.code_laws.specs.Seen.{Setting, IsSetting, machine_of, Seen, state_of}
 use Rattle.code_laws.specs.Laid.{Stands}
 use Rattle.code_laws.proofs.Events.{whole_quiet, whole_turn, whole_out, whole_stop, IsOrdinary, event_goes, event_halts, event_strays, inside_code, clean_next, no_service_reads}
 use Rattle.code_laws.specs.Runs.{Whole, whole}
@@ -101,7 +101,7 @@ with_turns n v = record v { world = record v.world { turns = n } }
 
 module _ (S : Setting) where
   abbrev whole_of : View → Stored → ℕ → Whole Stored
-  whole_of v y n = whole (ground S) v.world.turns v.world.accesses (state_of v y n)
+  whole_of v y n = whole (machine_of S) v.world.turns v.world.accesses (state_of v y n)
 
   abbrev Leads : Whole Stored → View → Type 0
   Leads out v = LeadsTo S out v
@@ -127,53 +127,53 @@ module _ (S : Setting) (ok : IsSetting S) where
   pub record Here (v : View) (y : Stored) (i : Instr) (next : ℕ) : Type 0 where
     pub seen : Seen S v y
     pub stands : Stands S.code v.processor.rip i next
-    pub ordinary : IsOrdinary (ground S) refl i
+    pub ordinary : IsOrdinary (machine_of S) refl i
     pub out : all_keep_out false i v.processor.rip (accesses i next v.processor.regs) ≡ true
 
-  pub clean_here : (v : View) (y : Stored) (n : ℕ) (i : Instr) (next : ℕ) → Here v y i next → clean_now (ground S) (state_of v y n) ≡ true
-  clean_here v y n i next h = clean_next (ground S) refl (state_of v y n) i next (next_of S ok v y n i next h.seen h.stands) (no_service_reads (ground S) refl (state_of v y n) i h.ordinary.service) h.out
+  pub clean_here : (v : View) (y : Stored) (n : ℕ) (i : Instr) (next : ℕ) → Here v y i next → clean_now (machine_of S) (state_of v y n) ≡ true
+  clean_here v y n i next h = clean_next (machine_of S) refl (state_of v y n) i next (next_of S ok v y n i next h.seen h.stands) (no_service_reads (machine_of S) refl (state_of v y n) i h.ordinary.service) h.out
 
   pub c_accesses_next : (v : View) (y : Stored) (n : ℕ) (i : Instr) (next : ℕ) (now : List Access) → Here v y i next → c_accesses_among i (accesses i next v.processor.regs) ≡ now
-      → c_accesses_by (state_of v y n) (reading_at (ground S) (state_of v y n)) ≡ now
+      → c_accesses_by (state_of v y n) (reading_at (machine_of S) (state_of v y n)) ≡ now
   c_accesses_next v y n i next now h is =
       let next_one = next_of S ok v y n i next h.seen h.stands in
       rw (next_one.reads, inside_code v.processor.rip next_one.low next_one.high, next_one.is_next) is
 
   pub goes_on : (v u : View) (y z : Stored) (n next : ℕ) (i : Instr) (now : List Access) → Here v y i next
       → reach_strays i v.processor.rip (reach_of (accesses i next v.processor.regs)) ≡ None → c_accesses_among i (accesses i next v.processor.regs) ≡ now
-      → executed (ground S) i next (state_of v y n) ≡ Does (record { processor = u.processor; memory = z; guest = u.world.guest; steps = n })
+      → executed (machine_of S) i next (state_of v y n) ≡ Does (record { processor = u.processor; memory = z; guest = u.world.guest; steps = n })
       → v.processor.rip < u.processor.rip → u.world.turns ≡ v.world.turns → u.world.accesses ≡ v.world.accesses ++ now → Seen S u z
       → Leads S (whole_of S v y n) u
   goes_on v u y z n next i now h fine by is forward turns made seen =
       let next_one = next_of S ok v y n i next h.seen h.stands in
       let t : State Stored = state_of u z n in
       let later : nat_le u.processor.rip v.processor.rip ≡ false = grind (arith, nat_tests) in
-      let e : event (ground S) (state_of v y n) ≡ Goes false (state_of u z (one_more n)) =
-      event_goes (ground S) refl (state_of v y n) t i next next_one h.ordinary fine is ∙ ap (λ (b : Bool). Goes b (state_of u z (one_more n))) later in
+      let e : event (machine_of S) (state_of v y n) ≡ Goes false (state_of u z (one_more n)) =
+      event_goes (machine_of S) refl (state_of v y n) t i next next_one h.ordinary fine is ∙ ap (λ (b : Bool). Goes b (state_of u z (one_more n))) later in
       record {
         memory = z;
         steps = one_more n;
-        same = whole_quiet (ground S) v.world.turns v.world.accesses now (state_of v y n) (state_of u z (one_more n)) e (c_accesses_next v y n i next now h by) (clean_here v y n i next h)
-            ∙ (λ j. whole (ground S) (sym turns j) (sym made j) (state_of u z (one_more n)));
+        same = whole_quiet (machine_of S) v.world.turns v.world.accesses now (state_of v y n) (state_of u z (one_more n)) e (c_accesses_next v y n i next now h by) (clean_here v y n i next h)
+            ∙ (λ j. whole (machine_of S) (sym turns j) (sym made j) (state_of u z (one_more n)));
         seen = seen;
       }
 
   -- the same where no access of C is made, and the world stays
   pub goes_quiet : (v : View) (c : Processor) (slots : ℕ → ℕ) (y z : Stored) (n next : ℕ) (i : Instr) → Here v y i next
       → reach_strays i v.processor.rip (reach_of (accesses i next v.processor.regs)) ≡ None → c_accesses_among i (accesses i next v.processor.regs) ≡ []
-      → executed (ground S) i next (state_of v y n) ≡ Does (record { processor = c; memory = z; guest = v.world.guest; steps = n })
+      → executed (machine_of S) i next (state_of v y n) ≡ Does (record { processor = c; memory = z; guest = v.world.guest; steps = n })
       → v.processor.rip < c.rip → Seen S (record { processor = c; slots = slots; world = v.world }) z
       → Leads S (whole_of S v y n) (record { processor = c; slots = slots; world = v.world })
   goes_quiet v c slots y z n next i h fine by is forward seen =
       goes_on v (record { processor = c; slots = slots; world = v.world }) y z n next i [] h fine by is forward refl (sym (append_none v.world.accesses)) seen
 
   turned_on : (v : View) (y : Stored) (n next target : ℕ) (i : Instr) (turns : ℕ) → v.world.turns ≡ turns → Here v y i next → c_accesses_among i (accesses i next v.processor.regs) ≡ []
-      → event (ground S) (state_of v y n) ≡ Goes true (state_of (record v { processor = record v.processor { rip = target } }) y (one_more n))
+      → event (machine_of S) (state_of v y n) ≡ Goes true (state_of (record v { processor = record v.processor { rip = target } }) y (one_more n))
       → Seen S (record v { processor = record v.processor { rip = target } }) y
-      → Turned S (whole (ground S) turns v.world.accesses (state_of v y n)) turns (record v { processor = record v.processor { rip = target } })
+      → Turned S (whole (machine_of S) turns v.world.accesses (state_of v y n)) turns (record v { processor = record v.processor { rip = target } })
   turned_on v y n next target i zero left h by e seen = record {
     last = state_of v y n;
-    is = whole_out (ground S) v.world.accesses (state_of v y n) _ e (clean_here v y n i next h);
+    is = whole_out (machine_of S) v.world.accesses (state_of v y n) _ e (clean_here v y n i next h);
     guest = refl;
     store = h.seen.memory.store;
   }
@@ -182,21 +182,21 @@ module _ (S : Setting) (ok : IsSetting S) where
       record {
         memory = y;
         steps = one_more n;
-        same = whole_turn (ground S) turns v.world.accesses [] (state_of v y n) _ e (c_accesses_next v y n i next [] h by) (clean_here v y n i next h)
-            ∙ ap (λ (l : List Access). whole (ground S) turns l (state_of u y (one_more n))) (append_none v.world.accesses);
+        same = whole_turn (machine_of S) turns v.world.accesses [] (state_of v y n) _ e (c_accesses_next v y n i next [] h by) (clean_here v y n i next h)
+            ∙ ap (λ (l : List Access). whole (machine_of S) turns l (state_of u y (one_more n))) (append_none v.world.accesses);
         seen = record { memory = record { open_bytes = seen.memory.open_bytes; store = seen.memory.store; frame = seen.memory.frame; frozen = seen.memory.frozen; code = seen.memory.code; data_cell = seen.memory.data_cell; legacy_cell = seen.memory.legacy_cell; depth_cell = seen.memory.depth_cell; each_byte = seen.memory.each_byte; kept_words = seen.memory.kept_words; guest_fits = seen.memory.guest_fits }; words = seen.words; stack = seen.stack; preserve = seen.preserve; far = seen.far };
       }
 
   -- a jump, which takes a turn unless it leads forward
   pub jump_goes : (v : View) (y : Stored) (n next target : ℕ) (i : Instr) → Here v y i next
       → reach_strays i v.processor.rip (reach_of (accesses i next v.processor.regs)) ≡ None → c_accesses_among i (accesses i next v.processor.regs) ≡ []
-      → executed (ground S) i next (state_of v y n) ≡ Does (state_of (record v { processor = record v.processor { rip = target } }) y n)
+      → executed (machine_of S) i next (state_of v y n) ≡ Does (state_of (record v { processor = record v.processor { rip = target } }) y n)
       → Seen S (record v { processor = record v.processor { rip = target } }) y
       → After S (whole_of S v y n) (jumped v target)
   jump_goes v y n next target i h fine by is seen =
       let next_one = next_of S ok v y n i next h.seen h.stands in
       let u : View = record v { processor = record v.processor { rip = target } } in
-      let e = event_goes (ground S) refl (state_of v y n) (state_of u y n) i next next_one h.ordinary fine is in
+      let e = event_goes (machine_of S) refl (state_of v y n) (state_of u y n) i next next_one h.ordinary fine is in
       elim (nat_le target v.processor.rip) as (λ b. nat_le target v.processor.rip ≡ b → After S (whole_of S v y n) (if b then Turn u else On u)) [
         | true ↦ λ back. turned_on v y n next target i v.world.turns refl h by (e ∙ ap (λ (b : Bool). Goes b (state_of u y (one_more n))) back) seen
         | false ↦ λ ahead. goes_quiet v u.processor v.slots y y n next i h fine by is (grind (arith, nat_tests)) seen
@@ -204,12 +204,12 @@ module _ (S : Setting) (ok : IsSetting S) where
 
   pub halts_here : (v : View) (y : Stored) (n next : ℕ) (i : Instr) (why : Stop) (last : State Stored) → Here v y i next
       → reach_strays i v.processor.rip (reach_of (accesses i next v.processor.regs)) ≡ None
-      → executed (ground S) i next (state_of v y n) ≡ Halts why last → last.guest ≡ v.world.guest → last.memory.bounds ≡ v.world.store
+      → executed (machine_of S) i next (state_of v y n) ≡ Halts why last → last.guest ≡ v.world.guest → last.memory.bounds ≡ v.world.store
       → EndedBy S (whole_of S v y n) why v.world
   halts_here v y n next i why last h fine is guest store = record {
     last = last;
-    is = whole_stop (ground S) v.world.turns v.world.accesses (state_of v y n) last why
-        (event_halts (ground S) refl (state_of v y n) last why i next (next_of S ok v y n i next h.seen h.stands) h.ordinary fine is) (clean_here v y n i next h);
+    is = whole_stop (machine_of S) v.world.turns v.world.accesses (state_of v y n) last why
+        (event_halts (machine_of S) refl (state_of v y n) last why i next (next_of S ok v y n i next h.seen h.stands) h.ordinary fine is) (clean_here v y n i next h);
     guest = guest;
     store = store;
   }
@@ -218,8 +218,8 @@ module _ (S : Setting) (ok : IsSetting S) where
       → reach_strays i v.processor.rip (reach_of (accesses i next v.processor.regs)) ≡ Some x → EndedBy S (whole_of S v y n) (stop.Strayed x) v.world
   strays_here v y n next x i h strays = record {
     last = state_of v y n;
-    is = whole_stop (ground S) v.world.turns v.world.accesses (state_of v y n) (state_of v y n) (stop.Strayed x)
-        (event_strays (ground S) refl (state_of v y n) x i next (next_of S ok v y n i next h.seen h.stands) h.ordinary strays) (clean_here v y n i next h);
+    is = whole_stop (machine_of S) v.world.turns v.world.accesses (state_of v y n) (state_of v y n) (stop.Strayed x)
+        (event_strays (machine_of S) refl (state_of v y n) x i next (next_of S ok v y n i next h.seen h.stands) h.ordinary strays) (clean_here v y n i next h);
     guest = refl;
     store = h.seen.memory.store;
   }

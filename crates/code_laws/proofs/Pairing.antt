@@ -22,7 +22,7 @@ use Rattle.obj_file.proofs.StoredRequests.{store_touched, store_untouched, touch
 use Rattle.obj_file.proofs.StoredTouched.{placed_touched, place_last}
 use Rattle.std.proofs.Common.{length-append}
 use Rattle.code_laws.specs.Views.{View, walked, with_bound, pair_loaded, pair_kept}
-use Rattle.code_laws.specs.Seen.{Setting, IsSetting, ground, Holds, state_of}
+use Rattle.code_laws.specs.Seen.{Setting, IsSetting, machine_of, Holds, state_of}
 use Rattle.std.proofs.Common.{◌==◌}
 use Rattle.mx_base.specs.Bounds.{full_bounds}
 use Rattle.obj_file.specs.StoreLaw.{AreWords, KeepsWords}
@@ -110,7 +110,7 @@ module _ (S : Setting) (ok : IsSetting S) where
       let u : View = record v { processor = c; world = world_with_store v.world y.bounds } in
       goes_on S ok v u y y n next i [] (record { seen = h.seen; stands = h.stands; ordinary = record { call = refl; return = refl; service = refl }; out = refl })
       (none_fine S ok i v.processor.rip _ refl) refl
-      (executed_loads (ground S) i next (state_of v y n) la value _ bounds y c (loaded_row v.processor next b p x (omega arith)) (near_touched S.preserve y la near y.bounds (bounds, y) some)
+      (executed_loads (machine_of S) i next (state_of v y n) la value _ bounds y c (loaded_row v.processor next b p x (omega arith)) (near_touched S.preserve y la near y.bounds (bounds, y) some)
       (ap (λ (d : Processor). Ends (with_bound d b bounds)) (sym (walked_before y.bounds la (at_next v.processor next) some))))
       (forward S ok v y i next h) refl (sym (append_none v.world.accesses))
       (record {
@@ -132,7 +132,7 @@ module _ (S : Setting) (ok : IsSetting S) where
       let z : Stored = with_store y t in
       goes_on S ok v u y z n next i [] (record { seen = h.seen; stands = h.stands; ordinary = record { call = refl; return = refl; service = refl }; out = refl })
       (none_fine S ok i v.processor.rip _ refl) refl
-      (executed_loads_served (ground S) i next (state_of v y n) la value e _ _ z bounds z c (loaded_row v.processor next b p x (omega arith)) (near_untouched S.preserve y la near y.bounds _ none)
+      (executed_loads_served (machine_of S) i next (state_of v y n) la value e _ _ z bounds z c (loaded_row v.processor next b p x (omega arith)) (near_untouched S.preserve y la near y.bounds _ none)
       (ap (served_or_invalid e) served) (loaded_row (record v.processor { status = invalid_status e }) next b p x (omega arith)) (near_touched S.preserve y la near t (bounds, z) some)
       (ap (λ (d : Processor). Ends (with_bound d b bounds)) (sym (walked_now y.bounds la (at_next v.processor next) S.preserve none h.seen.preserve))))
       (forward S ok v y i next h) refl (sym (append_none v.world.accesses))
@@ -149,7 +149,7 @@ module _ (S : Setting) (ok : IsSetting S) where
       let e = directory_entry_at (configuration S.preserve) la in
       halts_here S ok v y n next i stop.NoTable _ (record { seen = h.seen; stands = h.stands; ordinary = record { call = refl; return = refl; service = refl }; out = refl })
       (none_fine S ok i v.processor.rip _ refl)
-      (executed_loads_never (ground S) i next (state_of v y n) la (v.processor.regs x) e _ (loaded_row v.processor next b p x (omega arith)) (near_untouched S.preserve y la near y.bounds _ none) (ap (served_or_invalid e) served))
+      (executed_loads_never (machine_of S) i next (state_of v y n) la (v.processor.regs x) e _ (loaded_row v.processor next b p x (omega arith)) (near_untouched S.preserve y la near y.bounds _ none) (ap (served_or_invalid e) served))
       refl h.seen.memory.store
 
   pub load_pair : (v : View) (y : Stored) (n next b p x : ℕ) → Ready S ok v y (Bndldx b (indexed p x 1 (pos 0))) next → v.processor.regs p < walk_end
@@ -179,7 +179,7 @@ module _ (S : Setting) (ok : IsSetting S) where
       let u : View = record v { processor = c; world = world_with_store v.world t } in
       goes_on S ok v u y (with_store y t) n next i [] (record { seen = h.seen; stands = h.stands; ordinary = record { call = refl; return = refl; service = refl }; out = refl })
       (none_fine S ok i v.processor.rip _ refl) refl
-      (executed_keeps (ground S) i next (state_of v y n) la (v.processor.regs x) (v.processor.bounds b) _ (with_store y t) c (kept_row v.processor next p x b (omega arith)) (near_touched S.preserve y la near y.bounds (with_store y t) some)
+      (executed_keeps (machine_of S) i next (state_of v y n) la (v.processor.regs x) (v.processor.bounds b) _ (with_store y t) c (kept_row v.processor next p x b (omega arith)) (near_touched S.preserve y la near y.bounds (with_store y t) some)
       (ap (λ (d : Processor). Ends d) (sym (walked_before y.bounds la (at_next v.processor next) some))))
       (forward S ok v y i next h) refl (sym (append_none v.world.accesses))
       (record {
@@ -199,7 +199,7 @@ module _ (S : Setting) (ok : IsSetting S) where
       let u : View = record v { processor = c; world = world_with_store v.world q } in
       goes_on S ok v u y (with_store y q) n next i [] (record { seen = h.seen; stands = h.stands; ordinary = record { call = refl; return = refl; service = refl }; out = refl })
       (none_fine S ok i v.processor.rip _ refl) refl
-      (executed_keeps_served (ground S) i next (state_of v y n) la (v.processor.regs x) e (v.processor.bounds b) _ _ (with_store y t) (with_store y q) c (kept_row v.processor next p x b (omega arith)) (near_untouched S.preserve y la near y.bounds _ none)
+      (executed_keeps_served (machine_of S) i next (state_of v y n) la (v.processor.regs x) e (v.processor.bounds b) _ _ (with_store y t) (with_store y q) c (kept_row v.processor next p x b (omega arith)) (near_untouched S.preserve y la near y.bounds _ none)
       (ap (served_or_invalid e) served) (kept_row (record v.processor { status = invalid_status e }) next p x b (omega arith)) (near_touched S.preserve y la near t (with_store y q) some)
       (ap (λ (d : Processor). Ends d) (sym (walked_now y.bounds la (at_next v.processor next) S.preserve none h.seen.preserve))))
       (forward S ok v y i next h) refl (sym (append_none v.world.accesses))
@@ -216,7 +216,7 @@ module _ (S : Setting) (ok : IsSetting S) where
       let e = directory_entry_at (configuration S.preserve) la in
       halts_here S ok v y n next i stop.NoTable _ (record { seen = h.seen; stands = h.stands; ordinary = record { call = refl; return = refl; service = refl }; out = refl })
       (none_fine S ok i v.processor.rip _ refl)
-      (executed_keeps_never (ground S) i next (state_of v y n) la (v.processor.regs x) e (v.processor.bounds b) _ (kept_row v.processor next p x b (omega arith)) (near_untouched S.preserve y la near y.bounds _ none) (ap (served_or_invalid e) served))
+      (executed_keeps_never (machine_of S) i next (state_of v y n) la (v.processor.regs x) e (v.processor.bounds b) _ (kept_row v.processor next p x b (omega arith)) (near_untouched S.preserve y la near y.bounds _ none) (ap (served_or_invalid e) served))
       refl h.seen.memory.store
 
   pub keep_pair : (v : View) (y : Stored) (n next p x b : ℕ) → Ready S ok v y (Bndstx b (indexed p x 1 (pos 0))) next → v.processor.regs p < walk_end

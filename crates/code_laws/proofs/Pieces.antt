@@ -38,7 +38,7 @@ use Rattle.code_laws.proofs.Frames.{cells_readable}
 use Rattle.step_code.specs.Pieces.{cell, data_sp_cell}
 use Rattle.code_laws.specs.Views.{View, On, jumped, with_word, with_bound, pair_at, with_slot, with_pair_at}
 use Rattle.step_code.specs.Pieces.{relative, of_frame}
-use Rattle.code_laws.specs.Seen.{Setting, IsSetting, ground, Holds, Seen, state_of}
+use Rattle.code_laws.specs.Seen.{Setting, IsSetting, machine_of, Holds, Seen, state_of}
 use Rattle.code_laws.proofs.Events.{inside_code}
 use Rattle.code_laws.proofs.Frames.{frame_address, slot_read, slot_small, slot_write, pair_read, pair_write}
 use Rattle.code_laws.proofs.Leading.{executed_ends, executed_fails, executed_reads, executed_writes, After, Here, goes_quiet, jump_goes, halts_here}
@@ -160,7 +160,7 @@ module _ (S : Setting) (ok : IsSetting S) where
       let keep : KeepWords (Ends c) = subst KeepWords p.is_row (row_words i next v.processor h.stands.valid (omega arith) h.seen.words) in
       goes_quiet S ok v c v.slots y y n next i (record { seen = h.seen; stands = h.stands; ordinary = record { call = p.call; return = p.return; service = p.service }; out = none_out i v.processor.rip _ p.accesses_none })
       (none_fine i v.processor.rip _ p.accesses_none) (ap (c_accesses_among i) p.accesses_none)
-      (executed_ends (ground S) i next (state_of v y n) c p.is_row) (let e = p.is_next in omega arith)
+      (executed_ends (machine_of S) i next (state_of v y n) c p.is_row) (let e = p.is_next in omega arith)
       (seen_after v y y c v.slots h.seen keep p.leaves p.preserve h.seen.memory)
 
   pub load_slot : (v : View) (y : Stored) (n next r k : ℕ) → Ready v y (MovFrom 64 (reg r) (of_frame k)) next → k < S.units → IsFree r
@@ -175,7 +175,7 @@ module _ (S : Setting) (ok : IsSetting S) where
       let at : address v.processor.regs next (of_frame k) ≡ S.sp + 8 * k = frame_address v.processor.regs next S.sp k h.seen.stack (omega arith) in
       goes_quiet S ok v c v.slots y y n next i (record { seen = h.seen; stands = h.stands; ordinary = record { call = refl; return = refl; service = refl }; out = frame_out i v.processor.rip _ (S.sp + 8 * k) 8 false false at (omega arith) })
       (frame_fine v.processor.rip i _ h.stands.low (let e = h.stands.high in let a = forward v y i next h in omega arith) refl) refl
-      (executed_reads (ground S) i next (state_of v y n) (address v.processor.regs next (of_frame k)) 8 (v.slots k) false _ c refl
+      (executed_reads (machine_of S) i next (state_of v y n) (address v.processor.regs next (of_frame k)) 8 (v.slots k) false _ c refl
       (rw at (slot_read S ok v.slots v.world y k h.seen.memory few))
       (let t : Processor = at_next v.processor next in ap (λ (x : ℕ). Ends (with_word t r x)) (let e : part_written 64 (v.processor.regs r) (v.slots k % 2 ^ 64) ≡ v.slots k = full_part (v.processor.regs r) (v.slots k) small in e)))
       (forward v y i next h)
@@ -196,7 +196,7 @@ module _ (S : Setting) (ok : IsSetting S) where
       let written = slot_write S ok v.slots v.world y k x h.seen.memory few small in
       goes_quiet S ok v c (with_slot k x v.slots) y _ n next i (record { seen = h.seen; stands = h.stands; ordinary = record { call = refl; return = refl; service = refl }; out = frame_out i v.processor.rip _ (S.sp + 8 * k) 8 true false at (omega arith) })
       (frame_fine v.processor.rip i _ h.stands.low (let e = h.stands.high in let a = forward v y i next h in omega arith) refl) refl
-      (executed_writes (ground S) i next (state_of v y n) (address v.processor.regs next (of_frame k)) 8 (x % 2 ^ 64 % 2 ^ 64) false c _ refl (rw (at, value) written.0))
+      (executed_writes (machine_of S) i next (state_of v y n) (address v.processor.regs next (of_frame k)) 8 (x % 2 ^ 64 % 2 ^ 64) false c _ refl (rw (at, value) written.0))
       (forward v y i next h)
       (seen_after v y _ c (with_slot k x v.slots) h.seen (record { regs_fit = h.seen.words.regs_fit; bounds_fit = h.seen.words.bounds_fit }) (leaves_all v.processor.regs) refl written.1)
 
@@ -216,7 +216,7 @@ module _ (S : Setting) (ok : IsSetting S) where
       let is : from_stored (v.slots k + 2 ^ 64 * v.slots (k + 1)) ≡ pair_at v.slots k = λ i. record { lb = lb i; ub = complement (held i) } in
       goes_quiet S ok v c v.slots y y n next i (record { seen = h.seen; stands = h.stands; ordinary = record { call = refl; return = refl; service = refl }; out = frame_out i v.processor.rip _ (S.sp + 8 * k) 16 false false at (omega arith) })
       (frame_fine v.processor.rip i _ h.stands.low (let e = h.stands.high in let a = forward v y i next h in omega arith) refl) refl
-      (executed_reads (ground S) i next (state_of v y n) (address v.processor.regs next (of_frame k)) 16 (v.slots k + 2 ^ 64 * v.slots (k + 1)) false _ c refl
+      (executed_reads (machine_of S) i next (state_of v y n) (address v.processor.regs next (of_frame k)) 16 (v.slots k + 2 ^ 64 * v.slots (k + 1)) false _ c refl
       (rw at (pair_read S ok v.slots v.world y k h.seen.memory few))
       (let t : Processor = at_next v.processor next in ap (λ (x : BoundsPair). Ends (with_bound t b x)) is))
       (forward v y i next h)
@@ -236,7 +236,7 @@ module _ (S : Setting) (ok : IsSetting S) where
       let written = pair_write S ok v.slots v.world y k x h.seen.memory few small.0 small.1 in
       goes_quiet S ok v c (with_pair_at k x v.slots) y _ n next i (record { seen = h.seen; stands = h.stands; ordinary = record { call = refl; return = refl; service = refl }; out = frame_out i v.processor.rip _ (S.sp + 8 * k) 16 true false at (omega arith) })
       (frame_fine v.processor.rip i _ h.stands.low (let e = h.stands.high in let a = forward v y i next h in omega arith) refl) refl
-      (executed_writes (ground S) i next (state_of v y n) (address v.processor.regs next (of_frame k)) 16 (x.lb + complement x.ub * 2 ^ 64) false c _ refl (rw at written.0))
+      (executed_writes (machine_of S) i next (state_of v y n) (address v.processor.regs next (of_frame k)) 16 (x.lb + complement x.ub * 2 ^ 64) false c _ refl (rw at written.0))
       (forward v y i next h)
       (seen_after v y _ c (with_pair_at k x v.slots) h.seen (record { regs_fit = h.seen.words.regs_fit; bounds_fit = h.seen.words.bounds_fit }) (leaves_all v.processor.regs) refl written.1)
 
@@ -245,7 +245,7 @@ module _ (S : Setting) (ok : IsSetting S) where
       → accesses i next v.processor.regs ≡ [] → row i next v.processor ≡ Fails f c → Ended S (whole_of S v y n) (fault_stop v.processor.rip f) v.world
   plain_fails v y n next i f c h call return service none is =
       halts_here S ok v y n next i (fault_stop v.processor.rip f) (record (state_of v y n) { processor = c }) (record { seen = h.seen; stands = h.stands; ordinary = record { call = call; return = return; service = service }; out = none_out i v.processor.rip _ none })
-      (none_fine i v.processor.rip _ none) (executed_fails (ground S) i next (state_of v y n) f c is) refl h.seen.memory.store
+      (none_fine i v.processor.rip _ none) (executed_fails (machine_of S) i next (state_of v y n) f c is) refl h.seen.memory.store
 
   rel_back : (t n : ℕ) (z : ℤ) → z ≡ pos t -ℤ pos n → t < 2 ^ 62 → n < 2 ^ 62 → (n + cast_unsigned w64 z) % 2 ^ 64 ≡ t
   rel_back t n (pos k) e small less = let f : t ≡ k + n = omega (arith, ints) in omega arith
@@ -264,7 +264,7 @@ module _ (S : Setting) (ok : IsSetting S) where
       let end = h.stands.high in
       jump_goes S ok v y n next target i (record { seen = h.seen; stands = h.stands; ordinary = record { call = refl; return = refl; service = refl }; out = refl })
       (none_fine i v.processor.rip _ refl) refl
-      (executed_ends (ground S) i next (state_of v y n) (record v.processor { rip = target }) (ap (λ (a : ℕ). Ends (record v.processor { rip = a })) (target_of next target small (omega arith))))
+      (executed_ends (machine_of S) i next (state_of v y n) (record v.processor { rip = target }) (ap (λ (a : ℕ). Ends (record v.processor { rip = a })) (target_of next target small (omega arith))))
       (seen_at v y target h.seen)
 
   go_row : (c : Processor) (code next target : ℕ) (b : Bool) → target < 2 ^ 62 → next < 2 ^ 62 → holds code c.flags ≡ b
@@ -281,7 +281,7 @@ module _ (S : Setting) (ok : IsSetting S) where
       let here : Here S ok v y i next = record { seen = h.seen; stands = h.stands; ordinary = record { call = refl; return = refl; service = refl }; out = refl } in
       elim (holds code v.processor.flags) as (λ b. holds code v.processor.flags ≡ b → After S (whole_of S v y n) (if b then jumped v target else On (record v { processor = at_next v.processor next }))) [
         | true ↦ λ is. jump_goes S ok v y n next target i here (none_fine i v.processor.rip _ refl) refl
-            (executed_ends (ground S) i next (state_of v y n) (record v.processor { rip = target }) (go_row v.processor code next target true small (omega arith) is)) (seen_at v y target h.seen)
+            (executed_ends (machine_of S) i next (state_of v y n) (record v.processor { rip = target }) (go_row v.processor code next target true small (omega arith) is)) (seen_at v y target h.seen)
         | false ↦ λ is. plain_goes v y n next i (at_next v.processor next) h (record { call = refl; return = refl; service = refl; accesses_none = refl; is_row = go_row v.processor code next target false small (omega arith) is; is_next = refl; leaves = leaves_all v.processor.regs; preserve = refl })
       ] refl
 
@@ -300,7 +300,7 @@ module _ (S : Setting) (ok : IsSetting S) where
       let fine : first_refused is_readable 8 0x7000_0010 ≡ None = first_refused-all is_readable 8 0x7000_0010 (λ a from to. cells_readable a (omega arith) (omega arith)) in
       goes_quiet S ok v c v.slots y y n next i (record { seen = h.seen; stands = h.stands; ordinary = record { call = refl; return = refl; service = refl }; out = frame_out i v.processor.rip 0x7000_0010 0x7000_0010 8 false false refl (omega arith) })
       (frame_fine v.processor.rip i _ h.stands.low (let e = h.stands.high in let a = forward v y i next h in omega arith) refl) refl
-      (executed_reads (ground S) i next (state_of v y n) 0x7000_0010 8 x false _ c refl (rw fine (ap (λ (z : ℕ). let o : Result ℕ _ = Ok z in o) value))
+      (executed_reads (machine_of S) i next (state_of v y n) 0x7000_0010 8 x false _ c refl (rw fine (ap (λ (z : ℕ). let o : Result ℕ _ = Ok z in o) value))
       (let t : Processor = at_next v.processor next in ap (λ (z : ℕ). Ends (with_word t r z)) (let e : part_written 64 (v.processor.regs r) (x % 2 ^ 64) ≡ x = full_part (v.processor.regs r) x small in e)))
       (forward v y i next h)
       (seen_after v y y c v.slots h.seen (word_words (at_next v.processor next) r x small (record { regs_fit = h.seen.words.regs_fit; bounds_fit = h.seen.words.bounds_fit })) (with_reg_leaves v.processor.regs r x free) refl h.seen.memory)

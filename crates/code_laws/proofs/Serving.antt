@@ -24,7 +24,7 @@ use Rattle.obj_file.specs.Runs.{c_accesses_by}
 use Rattle.obj_file.specs.Stored.{Stored}
 use Rattle.mx_base.specs.Guests.{GuestFits}
 use Rattle.code_laws.specs.Views.{View, with_word}
-use Rattle.code_laws.specs.Seen.{Setting, IsSetting, ground, state_of}
+use Rattle.code_laws.specs.Seen.{Setting, IsSetting, machine_of, state_of}
 use Rattle.code_laws.proofs.Events.{whole_quiet, whole_stop, Next, event_is, inside_code, control_fine}
 use Rattle.code_laws.specs.Runs.{Whole, whole}
 use Rattle.code_laws.proofs.Fetching.{next_of}
@@ -90,8 +90,8 @@ module _ (S : Setting) (ok : IsSetting S) where
   unfolding row part_written
   service_row c next small = let e : next % 2 ^ 64 ≡ next = omega arith in ap (λ (n : ℕ). Ends (with_word (with_word (at_next c next) 1 n) 11 0)) e
 
-  served_deed : (s t : State Stored) (next : ℕ) (q : Served Stop) → is_in instrumented_code s.processor.rip ≡ true → executed (ground S) Syscall next s ≡ Does t → asked (ground S) s ≡ q
-      → reach_strays Syscall s.processor.rip (reach_of (accesses Syscall next s.processor.regs)) ≡ None → deed_of (ground S) Syscall next s ≡ judged_service s q t
+  served_deed : (s t : State Stored) (next : ℕ) (q : Served Stop) → is_in instrumented_code s.processor.rip ≡ true → executed (machine_of S) Syscall next s ≡ Does t → asked (machine_of S) s ≡ q
+      → reach_strays Syscall s.processor.rip (reach_of (accesses Syscall next s.processor.regs)) ≡ None → deed_of (machine_of S) Syscall next s ≡ judged_service s q t
   unfolding deed_of
   served_deed s t next (Answers word g) inside is asks fine = rw (fine, is, asks, control_fine s.processor.rip t.processor.rip false S.outers inside) refl
   served_deed s t next (Exits code) inside is asks fine = rw (fine, is, asks) refl
@@ -115,39 +115,39 @@ module _ (S : Setting) (ok : IsSetting S) where
   AfterService out v next Overflows = Ended S out stop.StackOver v.world
   AfterService out v next (Refused why) = Ended S out why v.world
 
-  pub serve_by : (v : View) (y : Stored) (n next : ℕ) (q : Served Stop) → Ready S ok v y Syscall next → service_reads Syscall v.processor ≡ [] → asked (ground S) (state_of v y n) ≡ q → AfterService (whole_of S v y n) v next q
+  pub serve_by : (v : View) (y : Stored) (n next : ℕ) (q : Served Stop) → Ready S ok v y Syscall next → service_reads Syscall v.processor ≡ [] → asked (machine_of S) (state_of v y n) ≡ q → AfterService (whole_of S v y n) v next q
   serve_by v y n next q h reads_none asks = by_answer q asks
     where
-      next_one : Next (ground S) refl (state_of v y n) Syscall next
+      next_one : Next (machine_of S) refl (state_of v y n) Syscall next
       next_one = next_of S ok v y n Syscall next h.seen h.stands
 
       inside : is_in instrumented_code v.processor.rip ≡ true
       inside = inside_code v.processor.rip next_one.low next_one.high
 
-      is : executed (ground S) Syscall next (state_of v y n) ≡ Does (did v y n next)
-      is = let end = h.stands.high in executed_ends (ground S) Syscall next (state_of v y n) _ (service_row v.processor next (omega arith))
+      is : executed (machine_of S) Syscall next (state_of v y n) ≡ Does (did v y n next)
+      is = let end = h.stands.high in executed_ends (machine_of S) Syscall next (state_of v y n) _ (service_row v.processor next (omega arith))
 
-      cleanly : clean_now (ground S) (state_of v y n) ≡ true
-      cleanly = clean_next (ground S) refl (state_of v y n) Syscall next next_one reads_none refl
+      cleanly : clean_now (machine_of S) (state_of v y n) ≡ true
+      cleanly = clean_next (machine_of S) refl (state_of v y n) Syscall next next_one reads_none refl
 
       fine : reach_strays Syscall v.processor.rip (reach_of (accesses Syscall next v.processor.regs)) ≡ None
       fine = none_fine S ok Syscall v.processor.rip _ refl
 
-      deed : (q : Served Stop) → asked (ground S) (state_of v y n) ≡ q → deed_of (ground S) Syscall next (state_of v y n) ≡ answered (state_of v y n) (did v y n next) q
+      deed : (q : Served Stop) → asked (machine_of S) (state_of v y n) ≡ q → deed_of (machine_of S) Syscall next (state_of v y n) ≡ answered (state_of v y n) (did v y n next) q
       deed q asks = served_deed (state_of v y n) (did v y n next) next q inside is asks fine
 
-      stopped : (why : Stop) → deed_of (ground S) Syscall next (state_of v y n) ≡ Halts why (state_of v y n) → Ended S (whole_of S v y n) why v.world
+      stopped : (why : Stop) → deed_of (machine_of S) Syscall next (state_of v y n) ≡ Halts why (state_of v y n) → Ended S (whole_of S v y n) why v.world
       stopped why d = record {
         last = state_of v y n;
-        is = whole_stop (ground S) v.world.turns v.world.accesses (state_of v y n) (state_of v y n) why (event_is (ground S) refl (state_of v y n) Syscall next next_one ∙ rw (d, inside) refl) cleanly;
+        is = whole_stop (machine_of S) v.world.turns v.world.accesses (state_of v y n) (state_of v y n) why (event_is (machine_of S) refl (state_of v y n) Syscall next next_one ∙ rw (d, inside) refl) cleanly;
         guest = refl;
         store = h.seen.memory.store;
       }
 
-      by : c_accesses_by (state_of v y n) (reading_at (ground S) (state_of v y n)) ≡ []
+      by : c_accesses_by (state_of v y n) (reading_at (machine_of S) (state_of v y n)) ≡ []
       by = rw (next_one.reads, inside) refl
 
-      by_answer : (q : Served Stop) → asked (ground S) (state_of v y n) ≡ q → AfterService (whole_of S v y n) v next q
+      by_answer : (q : Served Stop) → asked (machine_of S) (state_of v y n) ≡ q → AfterService (whole_of S v y n) v next q
       by_answer (Exits code) asks = stopped (stop.Exit code) (deed (Exits code) asks)
       by_answer Overflows asks = stopped stop.StackOver (deed Overflows asks)
       by_answer (Refused why) asks = stopped why (deed (Refused why) asks)
@@ -156,14 +156,14 @@ module _ (S : Setting) (ok : IsSetting S) where
           let ahead = forward S ok v y Syscall next h in
           let end = h.stands.high in
           let later : nat_le next v.processor.rip ≡ false = grind (arith, nat_tests) in
-          let d : deed_of (ground S) Syscall next (state_of v y n) ≡ Does (state_of u y n) = deed (Answers word g) asks ∙ ap (λ (x : ℕ). let t : Deed Stored = Does (record { processor = with_word (with_word (with_word (at_next v.processor next) 1 next) 11 0) 0 x; memory = y; guest = g; steps = n }) in t) (full_word (v.processor.regs 0) word small) in
-          let e : event (ground S) (state_of v y n) ≡ Goes false (state_of u y (one_more n)) = event_is (ground S) refl (state_of v y n) Syscall next next_one ∙ rw (d, inside, later) refl in
+          let d : deed_of (machine_of S) Syscall next (state_of v y n) ≡ Does (state_of u y n) = deed (Answers word g) asks ∙ ap (λ (x : ℕ). let t : Deed Stored = Does (record { processor = with_word (with_word (with_word (at_next v.processor next) 1 next) 11 0) 0 x; memory = y; guest = g; steps = n }) in t) (full_word (v.processor.regs 0) word small) in
+          let e : event (machine_of S) (state_of v y n) ≡ Goes false (state_of u y (one_more n)) = event_is (machine_of S) refl (state_of v y n) Syscall next next_one ∙ rw (d, inside, later) refl in
           let leaves_a = with_reg_leaves v.processor.regs 1 next (record { rbx = refl; rsp = refl; rbp = refl; r12 = refl; r13 = refl; r14 = refl; r15 = refl }) in
           record {
             memory = y;
             steps = one_more n;
-            same = whole_quiet (ground S) v.world.turns v.world.accesses [] (state_of v y n) (state_of u y (one_more n)) e by cleanly
-                ∙ ap (λ (l : List Access). whole (ground S) v.world.turns l (state_of u y (one_more n))) (append_none v.world.accesses);
+            same = whole_quiet (machine_of S) v.world.turns v.world.accesses [] (state_of v y n) (state_of u y (one_more n)) e by cleanly
+                ∙ ap (λ (l : List Access). whole (machine_of S) v.world.turns l (state_of u y (one_more n))) (append_none v.world.accesses);
             seen = record {
               memory = record { open_bytes = h.seen.memory.open_bytes; store = h.seen.memory.store; frame = h.seen.memory.frame; frozen = h.seen.memory.frozen; code = h.seen.memory.code; data_cell = h.seen.memory.data_cell; legacy_cell = h.seen.memory.legacy_cell; depth_cell = h.seen.memory.depth_cell; each_byte = h.seen.memory.each_byte; kept_words = h.seen.memory.kept_words; guest_fits = fits };
               words = word_words (with_word (with_word (at_next v.processor next) 1 next) 11 0) 0 word small (word_words (with_word (at_next v.processor next) 1 next) 11 0 (omega arith) (word_words (at_next v.processor next) 1 next (omega arith) (record { regs_fit = h.seen.words.regs_fit; bounds_fit = h.seen.words.bounds_fit })));

@@ -18,7 +18,7 @@ use Rattle.step_code.specs.Pieces.{Home, relative}
 use Rattle.step_code.specs.Steps.{Plan, arg_reg}
 use Rattle.step_code.specs.Homes.{Assigned}
 use Rattle.code_laws.specs.Views.{View, number_home, pair_home}
-use Rattle.code_laws.specs.Seen.{Setting, IsSetting, ground, Seen, state_of}
+use Rattle.code_laws.specs.Seen.{Setting, IsSetting, machine_of, Seen, state_of}
 use Rattle.code_laws.specs.Laid.{Stands}
 
 -- a run: how it ends, the accesses of C by then, and whether all others kept out of the directory and the tables
@@ -30,7 +30,7 @@ whole g turns before s = final g (record { state = s; turns = turns; accesses = 
 
 module _ (S : Setting) where
   abbrev pub whole_of : View → Stored → ℕ → Whole Stored
-  whole_of v y n = whole (ground S) v.world.turns v.world.accesses (state_of v y n)
+  whole_of v y n = whole (machine_of S) v.world.turns v.world.accesses (state_of v y n)
 
   -- the same run from another view
   pub record Leads (out : Whole Stored) (v : View) : Type 0 where

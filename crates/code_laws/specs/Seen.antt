@@ -30,8 +30,8 @@ pub record IsSetting (S : Setting) : Type 0 where
   pub high : S.sp + 8 * S.units ≤ 0x7200_0000
   pub labels : (k : ℕ) → S.label_at k < 2 ^ 62
 
-abbrev pub ground : Setting → Ground Stored
-ground S = stored_ground S.reads S.outers record { preserve = S.preserve; bare = false }
+abbrev pub machine_of : Setting → Ground Stored
+machine_of S = stored_ground S.reads S.outers record { preserve = S.preserve; bare = false }
 
 -- the memory behind a view: bytes that are not sealed and bounds are those of the world, the frame has the words, the cells have the stack pointers
 -- and the depth, and code and the control stack above the frame are as they are
