@@ -1,0 +1,6 @@
+pub mod Symbols
+pub mod Placement
+pub mod Fixing
+pub mod Image
+pub mod Faults
+pub mod Examples

@@ -1,0 +1,34 @@
+//! Where everything stands.
+
+use crate::names::Names;
+use crate::parts::Spot;
+use std::marker::Model;
+
+/// The addresses of objects' parts, in order of the objects.
+#[derive(Drop)]
+pub struct Spots {
+    items: Vec<Spot>,
+}
+
+impl Model for Spots {
+    ghost use Rattle.std.specs.Prelude.{List};
+    ghost use Rattle.obj_linker.specs.declared.parts.Spot.{Spot};
+
+    ghost Value = { List Spot };
+
+    ghost view = { λ held. held.items.items };
+}
+
+/// What names mean, and where parts and stubs stand.
+#[derive(Drop)]
+pub struct Plan {
+    /// The definition of each name.
+    pub definitions: Names,
+    /// The C functions, in order of their numbers.
+    pub functions: Names,
+    /// The legacy functions that C calls, in order of their first calls, each with the symbol by which it is called there.
+    pub stubs: Names,
+    pub spots: Spots,
+    /// The address of the first stub.
+    pub stubs_at: u64,
+}
