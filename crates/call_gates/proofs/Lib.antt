@@ -1,3 +1,6 @@
 pub mod Sizes
 pub mod Sound
 pub mod Onward
+pub mod Bytes
+pub mod Made
+pub mod Loops

@@ -1,14 +1,14 @@
 -- No relative jump of a gate leads back.
-use Rattle.std.specs.Prelude.{Bool, true, false, ◌&&◌, ◌==◌, if◌then◌else◌, Option, None, Some, ℤ, pos, negsuc, ◌-ℤ◌}
-use Rattle.std.proofs.Common.{◌≡◌, ℕ, zero, suc, ◌+◌, ◌*◌, ◌<◌, ◌≤◌, List, [], ◌∷◌, ◌++◌, length, refl, arith, ap, ◌∙◌, sym}
+use Rattle.std.specs.Prelude.{Bool, true, false, ◌&&◌, Option, None, Some, ℤ, pos, negsuc, ◌-ℤ◌}
+use Rattle.std.proofs.Common.{◌≡◌, ℕ, zero, suc, ◌+◌, ◌≤◌, List, [], ◌∷◌, ◌++◌, length, refl, arith}
 use Rattle.std.proofs.lemmas.Bool.{and_parts}
 use Rattle.std.proofs.lemmas.Int.{ints}
 use Rattle.mx_base.specs.declared.numbers.IntKind.{IntKind}
 use Rattle.mx_base.specs.declared.numbers.IntKind.TheVariants.{I8, U8, I16, U16, I32, U32, I64, U64}
 use Rattle.x86_forms.specs.declared.instr.Instr.TheVariants.{JmpRel}
 use Rattle.call_sigs.specs.Signatures.{Signature, Result, Nothing, Pointer, Of, parameter_register, pointers, result_pointers, HasRegisters}
-use Rattle.call_gates.specs.Gates.{Code, size_of_code, is_onward, all_onward, IsGate, clear_all, extends, extends_parameter, extend_parameters, extends_result, init_from, not_carrying, way, calls, jumps, returns, start_at, start_head, start_tail, start_gate, landing_gate, stub_keeps, stub_writes, stub_clears, stub_tail, stub_body_size, stub_gate, outer_keeps, outer_restores, outer_clears, outer_head, outer_gate, InCode, InLegacyCode}
-use Rattle.call_gates.proofs.Sizes.{size_append, few_parameters, few_result, few_inits, few_clears, few_stub, one_result}
+use Rattle.call_gates.specs.Gates.{Code, size_of_code, is_onward, all_onward, IsGate, clear_all, extends_parameter, extend_parameters, extends_result, init_from, not_carrying, way, calls, jumps, returns, start_gate, landing_gate, stub_keeps, stub_writes, stub_clears, stub_tail, stub_body_size, stub_gate, outer_keeps, outer_restores, outer_clears, outer_head, outer_gate, InCode, InLegacyCode}
+use Rattle.call_gates.proofs.Sizes.{size_append, few_result, few_inits, few_stub, one_result}
 use Rattle.call_gates.proofs.Sound.{start_sound, landing_sound, stub_sound, outer_sound, few_head}
 
 both_true : (a b : Bool) → a ≡ true → b ≡ true → (a && b) ≡ true

@@ -1,7 +1,7 @@
 -- Each instruction of the gates is valid, and its spelling has the size that is told.
-use Rattle.std.specs.Prelude.{Bool, true, false, ◌&&◌, ◌==◌, nat_lt, if◌then◌else◌, Option, None, Some, ℤ, pos, negsuc, ◌-ℤ◌, IsTrue}
+use Rattle.std.specs.Prelude.{Bool, true, false, ◌&&◌, ◌==◌, nat_lt, Option, None, Some, ℤ, pos, negsuc, ◌-ℤ◌}
 use Rattle.std.specs.List.{list_all}
-use Rattle.std.proofs.Common.{◌≡◌, ℕ, zero, suc, ◌+◌, ◌*◌, ◌<◌, ◌≤◌, ◌^◌, List, [], ◌∷◌, ◌++◌, length, length-append, append_assoc, refl, arith, ap, ◌∙◌, sym, subst}
+use Rattle.std.proofs.Common.{◌≡◌, ℕ, zero, suc, ◌+◌, ◌<◌, ◌≤◌, ◌^◌, List, [], ◌∷◌, ◌++◌, length, length-append, append_assoc, refl, arith, ap, ◌∙◌, sym}
 use Rattle.std.proofs.lemmas.Bool.{and_parts}
 use Rattle.std.proofs.lemmas.Bool.Decides.{nat_tests}
 use Rattle.std.proofs.lemmas.Int.{ints}
@@ -9,11 +9,11 @@ use Rattle.mx_base.specs.declared.numbers.IntKind.{IntKind}
 use Rattle.mx_base.specs.declared.numbers.IntKind.TheVariants.{I8, U8, I16, U16, I32, U32, I64, U64}
 use Rattle.x86_forms.specs.declared.instr.Instr.{Instr}
 use Rattle.x86_forms.specs.Fits.{fits_32}
-use Rattle.x86_forms.specs.Spelling.{spelling, low_bytes, mod_of, disp_bytes, scale_code, modrm, sib, over_base, mem_bytes, rm_bytes, index_high, base_high, rm_high, high_bits, is_low, rm_is_low, forces_rex, rex_bits, rex_bytes, prefix_bytes, escape_bytes, operand_bytes}
+use Rattle.x86_forms.specs.Spelling.{spelling, low_bytes, mod_of, disp_bytes, modrm, sib, over_base, mem_bytes, rm_bytes, index_high, base_high, rm_high, high_bits, is_low, rm_is_low, forces_rex, rex_bits, rex_bytes, prefix_bytes, escape_bytes, operand_bytes}
 use Rattle.x86_forms.specs.Validity.{valid_of}
 use Rattle.call_sigs.specs.Signatures.{Signature, Result, Nothing, Pointer, Of, parameter_register, pointers, result_pointers, HasRegisters}
-use Rattle.call_gates.specs.Gates.{Code, size_of_code, instructions, spelled, bytes_of_code, is_sound, clears, clear_all, extension, word_extension, if_any, extends, extends_parameter, extend_parameters, extends_result, init_from, not_carrying, way, calls, jumps, returns, sets, start_at, start_head, start_tail, start_gate, landing_gate, stub_keeps, stub_writes, stub_clears, stub_tail, stub_body_size, stub_gate, outer_keeps, outer_restores, outer_clears, outer_head, outer_gate, InCode, InLegacyCode}
-use Rattle.call_gates.proofs.Sizes.{size_append, few_parameters, few_result, few_inits, few_stub, one_result}
+use Rattle.call_gates.specs.Gates.{Code, size_of_code, instructions, spelled, bytes_of_code, is_sound, rax, rsp, copies, clears, clear_all, extends_parameter, extend_parameters, extends_result, init_from, not_carrying, way, calls, jumps, returns, start_at, start_head, start_tail, start_gate, landing_gate, stub_keeps, stub_writes, stub_clears, stub_tail, stub_body_size, stub_gate, outer_keeps, outer_restores, outer_clears, outer_head, outer_gate, InCode, InLegacyCode}
+use Rattle.call_gates.proofs.Sizes.{size_append, few_parameters, few_stub, one_result}
 
 -- ---- code of parts
 
@@ -90,6 +90,10 @@ pub writes_sound : is_sound stub_writes ≡ true
 unfolding low_bytes mod_of disp_bytes modrm sib over_base mem_bytes rm_bytes index_high base_high rm_high high_bits is_low rm_is_low forces_rex rex_bits rex_bytes prefix_bytes escape_bytes operand_bytes
 writes_sound = refl
 
+pub writes_and_sp_sound : is_sound (stub_writes ++ copies rsp rax ∷ []) ≡ true
+unfolding low_bytes mod_of disp_bytes modrm sib over_base mem_bytes rm_bytes index_high base_high rm_high high_bits is_low rm_is_low forces_rex rex_bits rex_bytes prefix_bytes escape_bytes operand_bytes
+writes_and_sp_sound = refl
+
 pub outer_keeps_sound : is_sound outer_keeps ≡ true
 unfolding low_bytes mod_of disp_bytes modrm sib over_base mem_bytes rm_bytes index_high base_high rm_high high_bits is_low rm_is_low forces_rex rex_bits rex_bytes prefix_bytes escape_bytes operand_bytes
 outer_keeps_sound = refl
@@ -143,6 +147,13 @@ result_sound Nothing = refl
 result_sound Pointer = refl
 result_sound (Of kind) = (each_sound (Some kind)).6
 
+pub result_register_sound : (p : Option IntKind) → is_sound (extends_parameter p 0) ≡ true
+result_register_sound p = (each_sound p).6
+
+pub cleared_sound : is_sound (clears 0 ∷ []) ≡ true
+unfolding modrm rm_bytes rm_high high_bits is_low rm_is_low forces_rex rex_bits rex_bytes prefix_bytes escape_bytes operand_bytes low_bytes
+cleared_sound = refl
+
 pub scratch_sound : is_sound (clear_all (0 ∷ 10 ∷ 11 ∷ [])) ≡ true
 unfolding modrm rm_bytes rm_high high_bits is_low rm_is_low forces_rex rex_bits rex_bytes prefix_bytes escape_bytes operand_bytes low_bytes
 scratch_sound = refl
@@ -177,6 +188,9 @@ inits_sound (suc zero) (suc (suc (suc zero))) low few = refl
 inits_sound (suc zero) (suc (suc (suc (suc zero)))) low few = refl
 inits_sound (suc zero) (suc (suc (suc (suc (suc b))))) low few = absurd (omega arith)
 inits_sound (suc (suc none)) b low few = absurd (omega arith)
+
+pub body_sound : (sig : Signature) → is_sound (stub_clears sig) ≡ true → is_sound (stub_writes ++ stub_clears sig) ≡ true
+body_sound sig h = sound_append stub_writes (stub_clears sig) writes_sound h
 
 -- ---- whole gates
 
@@ -222,6 +236,9 @@ few_head sig fits =
     let b = few_parameters 0 sig.parameters in
     omega arith
 
+pub head_sound : (sig : Signature) → HasRegisters sig → is_sound (outer_head sig) ≡ true
+head_sound sig fits = let few = fits.few in sound_append outer_keeps (extend_parameters 0 sig.parameters) outer_keeps_sound (parameters_sound 0 sig.parameters (omega arith))
+
 pub outer_sound : (sig : Signature) (inner at : ℕ) → HasRegisters sig → InCode inner → InCode at → is_sound (outer_gate sig inner at) ≡ true
 outer_sound sig inner at fits there here =
     let few = fits.few in
@@ -230,6 +247,6 @@ outer_sound sig inner at fits there here =
     let far = there.1 in
     let next : ℕ = at + size_of_code (outer_head sig) + 6 in
     let last : Code = outer_clears sig ++ (returns ∷ []) in
-    sound_append (outer_head sig) (calls inner next ∷ (outer_restores ++ last)) (sound_append outer_keeps (extend_parameters 0 sig.parameters) outer_keeps_sound (parameters_sound 0 sig.parameters (omega arith)))
+    sound_append (outer_head sig) (calls inner next ∷ (outer_restores ++ last)) (head_sound sig fits)
     (sound_append (calls inner next ∷ []) (outer_restores ++ last) (call_sound inner next (omega arith) (omega arith))
     (sound_append outer_restores last outer_restores_sound (sound_append (outer_clears sig) (returns ∷ []) (outer_clears_sound sig) returns_sound)))

@@ -145,6 +145,10 @@ abbrev pub word_extension : Option IntKind → ℕ → Option (Instr × ℕ)
 word_extension None r = None
 word_extension (Some kind) r = extension kind r
 
+-- the instruction without its size
+abbrev pub only_instr : Instr × ℕ → Instr
+only_instr x = x.0
+
 abbrev pub if_any : Option (Instr × ℕ) → Code
 if_any None = []
 if_any (Some x) = x ∷ []
@@ -273,8 +277,12 @@ outer_restores =
     ∷ copies rsp r10
     ∷ []
 
+-- the registers that C may touch and that carry no result
+abbrev pub others : List ℕ
+others = rcx ∷ rdx ∷ rsi ∷ rdi ∷ 8 ∷ 9 ∷ r10 ∷ r11 ∷ []
+
 abbrev pub outer_clears : Signature → Code
-outer_clears sig = extends_result sig.result ++ (clear_all (rcx ∷ rdx ∷ rsi ∷ rdi ∷ 8 ∷ 9 ∷ r10 ∷ r11 ∷ []) ++ init_from rcx (result_pointers sig.result))
+outer_clears sig = extends_result sig.result ++ (clear_all others ++ init_from rcx (result_pointers sig.result))
 
 abbrev pub outer_head : Signature → Code
 outer_head sig = outer_keeps ++ extend_parameters 0 sig.parameters

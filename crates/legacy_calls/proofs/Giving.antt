@@ -1,6 +1,6 @@
 -- Legacy code leaves the data stack of C where it stood.
-use Rattle.std.specs.Prelude.{Bool, true, false, ◌&&◌, not, ◌==◌, if◌then◌else◌, Option, None, Some, List}
-use Rattle.std.proofs.Common.{◌≡◌, ℕ, zero, suc, ◌+◌, ◌<◌, ◌≤◌, refl, arith, sym, subst, cond, ◌∙◌}
+use Rattle.std.specs.Prelude.{true, ◌&&◌, not, ◌==◌, Option, None, Some}
+use Rattle.std.proofs.Common.{◌≡◌, ℕ, zero, suc, refl, subst}
 use Rattle.std.proofs.lemmas.Bool.{cond_both}
 use Rattle.mx_base.specs.Access.{Refusal, refusal}
 use Rattle.mx_base.specs.Regions.{instrumented_code, is_in}
@@ -9,11 +9,10 @@ use Rattle.x86_forms.specs.Processor.{below_stack}
 use Rattle.x86_forms.specs.Watch.{is_legacy, landing}
 use Rattle.obj_file.specs.Machine.{Event, Goes, Stops as Halts, event}
 use Rattle.obj_file.specs.Stored.{Stored}
-use Rattle.fat_ir.specs.Values.{Value}
 use Rattle.fat_ir.specs.Calls.{Callee, Outcome, Comes, Stops, Stuck, turn_from, with_turns}
 use Rattle.fat_ir.specs.Laws.{Leads, FramesGivenBack}
 use Rattle.call_sigs.specs.Signatures.{Result}
-use Rattle.legacy_calls.specs.Legacy.{Linkage, Foreign, ground, as_state, from_state, at_entry, after_outer, arguments_from, given, stepped, judged_return, came_back, entered_at, lent, legacy_run, finished, unless_refused, called_in, outside}
+use Rattle.legacy_calls.specs.Legacy.{Linkage, Foreign, ground, as_state, from_state, at_entry, after_outer, stepped, judged_return, came_back, entered_at, lent, legacy_run, finished, unless_refused, called_in, outside}
 use Rattle.legacy_calls.specs.Laws.{KeepsStacks}
 
 abbrev Gives : ℕ → Outcome → Type 0

@@ -9,5 +9,5 @@ pub mod Fewer
 pub mod Giving
 pub mod Ends
 pub mod Layers
-pub mod Trials
+pub mod Examples
 pub mod Counted

@@ -17,7 +17,7 @@ use Rattle.x86_forms.specs.Watch.{is_legacy, landing, first_outer, outer_size}
 use Rattle.obj_file.specs.Machine.{Reading, Ground, State, Event, Goes, Stops as Halts, event}
 use Rattle.obj_file.specs.Stored.{Stored, stored_ground}
 use Rattle.fat_ir.specs.Values.{Value}
-use Rattle.fat_ir.specs.Calls.{Callee, Outcome, Comes, Stops, Stuck, taking_turn, with_turns}
+use Rattle.fat_ir.specs.Calls.{Callee, Outcome, Comes, Stops, Stuck, taking_turn}
 use Rattle.fat_ir.specs.Step.{stop_by}
 use Rattle.call_sigs.specs.Signatures.{Signature, Result, Nothing, Pointer, Of, parameter_register}
 use Rattle.x86_forms.specs.Processor.{rax, rsp}

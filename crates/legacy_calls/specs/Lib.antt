@@ -2,4 +2,4 @@ pub mod Legacy
 pub mod OfC
 pub mod Pieces
 pub mod Laws
-pub mod Trial
+pub mod Examples

@@ -1,5 +1,5 @@
 -- The events of legacy code between two worlds and their logs, for runs that go in pieces.
-use Rattle.std.specs.Prelude.{◌≡◌, ℕ, zero, suc, ◌==◌, if◌then◌else◌, Bool, List, [], ◌∷◌}
+use Rattle.std.specs.Prelude.{ℕ, zero, suc, ◌==◌, if◌then◌else◌, Bool, List, [], ◌∷◌}
 use Rattle.mx_base.specs.World.{World, Log}
 use Rattle.x86_forms.specs.Processor.{Processor}
 use Rattle.obj_file.specs.Machine.{Event, Goes, Stops, event}

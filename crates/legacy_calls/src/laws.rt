@@ -1,6 +1,6 @@
 //! Laws of the meaning of a legacy call beside C's log. Each function does nothing, or names the law that it rests on, and its contract is the law.
 
-ghost use Rattle.std.specs.Prelude.{◌≡◌, ◌≢◌, ℕ, List, length};
+ghost use Rattle.std.specs.Prelude.{◌≡◌, ◌≢◌, ◌++◌, ℕ, true, false, List, length};
 ghost use Rattle.mx_base.specs.declared.limits.Bounds.{Bounds};
 ghost use Rattle.mx_base.specs.Memory.{Bytes};
 ghost use Rattle.mx_base.specs.World.{World, Log, world_at_start, empty_log};
@@ -17,11 +17,11 @@ ghost use Rattle.bounds_plan.specs.Functions.{Linked, calls, program_run};
 ghost use Rattle.bounds_plan.specs.Laws.{Leaves, LeftOutside, NoMoreTurns, OutputGrows, Judged, InPieces, CopiesWhole};
 ghost use Rattle.bounds_plan.specs.Roots.{RootedOutside, AllMade, RunsWithin};
 ghost use Rattle.legacy_calls.specs.Legacy.{Linkage, ground, outside};
-ghost use Rattle.legacy_calls.specs.Laws.{KeepsStacks};
 ghost use Rattle.obj_file.specs.Beside.{Beside, alone, event_alone};
 ghost use Rattle.legacy_calls.specs.Laws.{Counted, KeepsStacks};
 ghost use Rattle.legacy_calls.specs.OfC.{ground_of_c, outside_of_c};
 ghost use Rattle.legacy_calls.specs.Pieces.{event_by_numbers};
+ghost use Rattle.legacy_calls.specs.Examples.{seen, call_of, keeps_code, loads_code, gives_back, calls_back, kept_and_given, widened, called_back, loaded};
 
 use bounds_plan::runs_stay_within_rooted_bounds;
 
@@ -67,3 +67,11 @@ pub fn programs_with_legacy_code_stay_within_rooted_bounds()
 {
     runs_stay_within_rooted_bounds();
 }
+
+/// Four calls of small legacy functions, evaluated: the value that comes back with its root, the turns left, and what the log has.
+pub fn small_legacy_calls_do_so()
+    ensures keeps { seen (call_of (keeps_code ++ gives_back true)) ≡ kept_and_given }
+    ensures widens { seen (call_of (keeps_code ++ gives_back false)) ≡ widened }
+    ensures calls { seen (call_of calls_back) ≡ called_back }
+    ensures loads { seen (call_of (loads_code ++ gives_back true)) ≡ loaded }
+{}

@@ -8,5 +8,5 @@ mod laws;
 pub use laws::{
     legacy_calls_do_the_same, legacy_calls_keep_to_laws, legacy_calls_keep_to_laws_of_steps,
     legacy_events_do_the_same, programs_with_legacy_code_end_alike,
-    programs_with_legacy_code_stay_within_rooted_bounds,
+    programs_with_legacy_code_stay_within_rooted_bounds, small_legacy_calls_do_so,
 };

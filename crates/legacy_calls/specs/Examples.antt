@@ -1,10 +1,10 @@
--- Calls of small legacy functions, run on a concrete world.
+-- Calls of small legacy functions, run on a concrete world, and what is seen of them.
 use Rattle.std.specs.Prelude.{ℕ, ◌/◌, ◌+◌, ◌-◌, Bool, true, false, Option, None, Some, ℤ, pos, negsuc, nat_eq, if◌then◌else◌, List, [], ◌∷◌, ◌++◌, length}
 use Rattle.std.specs.List.{starts_with}
 use Rattle.mx_base.specs.declared.limits.Bounds.{Bounds}
 use Rattle.mx_base.specs.declared.numbers.IntKind.TheVariants.{I64}
 use Rattle.mx_base.specs.Memory.{no_bytes, with_list}
-use Rattle.mx_base.specs.World.{World, Cause, Root, MadeAt, Log, world_at_start, empty_log}
+use Rattle.mx_base.specs.World.{World, Cause, LegacyInit, Root, MadeAt, FullBy, Log, world_at_start, empty_log}
 use Rattle.x86_forms.specs.declared.instr.Instr.{Instr}
 use Rattle.x86_forms.specs.declared.instr.Reg.{Reg}
 use Rattle.x86_forms.specs.declared.instr.Mem.{Mem}
@@ -63,8 +63,8 @@ block = record { lb = 0x2000_0000; ub = 0x2000_0003 }
 abbrev pub world_with : List Instr → World
 world_with code = world_at_start (with_list no_bytes 0x1200_0000 (bytes_of code)) [] 100
 
-abbrev pub arguments_of_trial : List Passed
-arguments_of_trial = OfPointer record { address = 0x2000_0000; rooted = record { bounds = block; root = MadeAt 0 } } ∷ OfNumber 0x2000_0010 ∷ []
+abbrev pub arguments_of_call : List Passed
+arguments_of_call = OfPointer record { address = 0x2000_0000; rooted = record { bounds = block; root = MadeAt 0 } } ∷ OfNumber 0x2000_0010 ∷ []
 
 -- a C function that gives back its argument, with its root
 abbrev pub first_of : List Passed → Passed
@@ -74,8 +74,8 @@ first_of (v ∷ vs) = v
 abbrev pub hands_back : CalleeOfC
 hands_back f args w log = Comes (first_of args) w log
 
-abbrev pub trial : List Instr → Answer
-trial code = outside_of_c (image_of code) hands_back 0 arguments_of_trial (world_with code) record empty_log { made = block ∷ [] }
+abbrev pub call_of : List Instr → Answer
+call_of code = outside_of_c (image_of code) hands_back 0 arguments_of_call (world_with code) record empty_log { made = block ∷ [] }
 
 -- what is looked at: the value with its root, the turns left, and the log
 pub record Seen : Type 0 where
@@ -98,3 +98,30 @@ seen_of v w log = record { value = v; turns = w.turns; accesses = how_many log.t
 abbrev pub seen : Answer → Seen
 seen (Comes v w log) = seen_of v w log
 seen (Stops why w log) = seen_of (OfNumber 0xdead) w log
+
+-- ---- what is seen of four calls
+
+abbrev pub wide : Bounds
+wide = record { lb = 0x2000_0000; ub = 0x2000_0007 }
+
+abbrev pub full : Bounds
+full = record { lb = 0; ub = 0xffff_ffff_ffff_ffff }
+
+abbrev pub pointer_with : Bounds → Root → Passed
+pointer_with b root = OfPointer record { address = 0x2000_0000; rooted = record { bounds = b; root = root } }
+
+-- bounds are kept, and the argument goes back with its own: both are made by that
+abbrev pub kept_and_given : Seen
+kept_and_given = record { value = pointer_with block (MadeAt 2); turns = 93; accesses = 1; made = block ∷ wide ∷ block ∷ []; causes = []; root = Some (MadeAt 1); pages = 0x607ff ∷ 0x20000 ∷ []; granules = 0x4000002 ∷ [] }
+
+-- without the prefix the register is INIT
+abbrev pub widened : Seen
+widened = record { value = pointer_with full (FullBy LegacyInit); turns = 93; accesses = 1; made = block ∷ wide ∷ []; causes = LegacyInit ∷ []; root = Some (MadeAt 1); pages = 0x607ff ∷ 0x20000 ∷ []; granules = 0x4000002 ∷ [] }
+
+-- a callback: the argument is made as it is handed over, and once more as the result is
+abbrev pub called_back : Seen
+called_back = record { value = pointer_with block (MadeAt 2); turns = 95; accesses = 1; made = block ∷ block ∷ block ∷ []; causes = []; root = None; pages = 0x607ff ∷ []; granules = [] }
+
+-- a load asks for its granule
+abbrev pub loaded : Seen
+loaded = record { value = pointer_with full (FullBy LegacyInit); turns = 95; accesses = 1; made = block ∷ []; causes = LegacyInit ∷ []; root = None; pages = 0x607ff ∷ []; granules = 0x4000003 ∷ [] }
