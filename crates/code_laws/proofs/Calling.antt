@@ -4,7 +4,8 @@ use Rattle.std.proofs.Common.{◌≡◌, ℕ, zero, suc, ◌<◌, true, false, c
 use Rattle.std.proofs.lemmas.Bool.Decides.{nat_tests}
 use Rattle.mx_base.specs.declared.limits.Bounds.{Bounds as BoundsPair}
 use Rattle.fat_ir.specs.Values.{Held, Nothing, Number, Pair}
-use Rattle.step_code.specs.Pieces.{Home, Reg, Slot, Bnd}
+use Rattle.step_code.specs.declared.homes.Home.{Home}
+use Rattle.step_code.specs.declared.homes.Home.TheVariants.{Reg, Slot, Bnd}
 use Rattle.code_laws.specs.Views.{View, pair_at}
 use Rattle.step_code.specs.Steps.{arg_reg}
 use Rattle.step_code.specs.Homes.{IsFree}

@@ -28,7 +28,10 @@ use Rattle.x86_forms.specs.declared.instr.Base.TheVariants.{None as NoBase}
 use Rattle.x86_forms.specs.declared.instr.Instr.TheVariants.{MovImm, Bndmk, Bndcl, Bndcu, JmpRel, Test}
 use Rattle.x86_forms.specs.declared.instr.Rm.TheVariants.{Mem as InMem}
 use Rattle.x86_forms.specs.Examples.{reg, in_reg, based}
-use Rattle.step_code.specs.Pieces.{Home, Reg, Slot, Bnd, Piece, Plain}
+use Rattle.step_code.specs.declared.homes.Home.{Home}
+use Rattle.step_code.specs.declared.homes.Home.TheVariants.{Reg, Slot, Bnd}
+use Rattle.step_code.specs.declared.pieces.Piece.{Piece}
+use Rattle.step_code.specs.declared.pieces.Piece.TheVariants.{Plain}
 use Rattle.code_laws.specs.Views.{View, Came, jumped}
 use Rattle.code_laws.specs.Seen.{Setting, IsSetting, Seen}
 use Rattle.code_laws.specs.Laid.{Stands}
@@ -60,7 +63,7 @@ use Rattle.code_laws.proofs.Frames.{slot_small}
 use Rattle.code_laws.proofs.Pieces.{load_slot, load_cell}
 use Rattle.fat_ir.specs.Step.{compared, with_number_at, with_pair_at, arguments_then, came_back, jumps_unless_0, operated, computed}
 use Rattle.step_code.specs.Steps.{extend_instr, load_args, put_number_at, put_pair_at, arg_reg}
-use Rattle.step_code.specs.Pieces.{CallTo}
+use Rattle.step_code.specs.declared.pieces.Piece.TheVariants.{CallTo}
 use Rattle.code_laws.proofs.Calling.{arg_free, arg_apart, same_reg, same_bound, LeavesBefore, at_slot}
 use Rattle.code_laws.specs.Runs.{ArgsStand}
 use Rattle.step_code.specs.Homes.{IsSlot}
@@ -69,7 +72,8 @@ use Rattle.code_laws.proofs.Homes.{number_kept_pair, pair_kept_pair, pair_put}
 use Rattle.step_code.specs.Homes.{Apart}
 use Rattle.mx_base.specs.Operators.{Comparison, comparison_at}
 use Rattle.x86_forms.specs.declared.instr.Instr.TheVariants.{One, Nop, AluTo}
-use Rattle.step_code.specs.Pieces.{LoadSlot, LoadBounds, instr_of}
+use Rattle.step_code.specs.declared.pieces.Piece.TheVariants.{LoadSlot, LoadBounds}
+use Rattle.step_code.specs.Pieces.{instr_of}
 use Rattle.mx_base.specs.Services.{Served, Answers, Exits, Overflows, service_of, c_service}
 use Rattle.fat_ir.specs.Step.{number_or_0_then, answered}
 use Rattle.mx_base.specs.Guests.{GuestFits, AnswerFits}

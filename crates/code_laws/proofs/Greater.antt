@@ -12,7 +12,8 @@ use Rattle.x86_forms.specs.Processor.{Processor, with_reg}
 use Rattle.x86_forms.specs.Spelling.{spelling, low_bytes, mod_of, disp_bytes, scale_code, modrm, sib, over_base, mem_bytes, rm_bytes, index_high, base_high, rm_high, high_bits, is_low, rm_is_low, forces_rex, rex_bits, rex_bytes, prefix_bytes, escape_bytes, operand_bytes}
 use Rattle.x86_forms.specs.Table.{at_next}
 use Rattle.obj_file.specs.Stored.{Stored}
-use Rattle.step_code.specs.Pieces.{Piece, relative}
+use Rattle.step_code.specs.declared.pieces.Piece.{Piece}
+use Rattle.step_code.specs.Pieces.{relative}
 use Rattle.code_laws.specs.Views.{View, Came, jumped, with_slot, with_word}
 use Rattle.code_laws.specs.Seen.{Setting, IsSetting, Seen}
 use Rattle.code_laws.specs.Laid.{Stands}

@@ -10,7 +10,10 @@ use Rattle.x86_forms.specs.Processor.{Processor, part_written}
 use Rattle.x86_forms.specs.Requests.{Ends}
 use Rattle.x86_forms.specs.Table.{row, at_next}
 use Rattle.obj_file.specs.Stored.{Stored}
-use Rattle.step_code.specs.Pieces.{Home, Reg, Slot, Bnd, Piece, instr_of}
+use Rattle.step_code.specs.declared.homes.Home.{Home}
+use Rattle.step_code.specs.declared.homes.Home.TheVariants.{Reg, Slot, Bnd}
+use Rattle.step_code.specs.declared.pieces.Piece.{Piece}
+use Rattle.step_code.specs.Pieces.{instr_of}
 use Rattle.code_laws.specs.Views.{View, pair_at, with_word, with_bound}
 use Rattle.code_laws.specs.Seen.{Setting, IsSetting}
 use Rattle.code_laws.specs.Views.{number_home, pair_home, with_number_home, with_pair_home}

@@ -10,7 +10,7 @@ use Rattle.fat_ir.specs.Step.{Symbols, State, Next, To, Reached, On}
 use Rattle.fat_ir.specs.Run.{passes, and_then, pass}
 use Rattle.x86_forms.specs.declared.instr.Instr.{Instr}
 use Rattle.x86_forms.proofs.ShortCode.{spelling-short}
-use Rattle.step_code.specs.Pieces.{Piece}
+use Rattle.step_code.specs.declared.pieces.Piece.{Piece}
 use Rattle.code_laws.specs.Seen.{Setting}
 use Rattle.code_laws.specs.Laid.{Stands}
 use Rattle.step_code.specs.Steps.{Plan, lower}

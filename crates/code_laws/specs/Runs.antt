@@ -14,7 +14,8 @@ use Rattle.obj_file.specs.Finals.{Final, final}
 use Rattle.obj_file.specs.Machine.{Ground, State}
 use Rattle.obj_file.specs.Runs.{Out, Stopped}
 use Rattle.obj_file.specs.Stored.{Stored}
-use Rattle.step_code.specs.Pieces.{Home, relative}
+use Rattle.step_code.specs.declared.homes.Home.{Home}
+use Rattle.step_code.specs.Pieces.{relative}
 use Rattle.step_code.specs.Steps.{Plan, arg_reg}
 use Rattle.step_code.specs.Homes.{Assigned}
 use Rattle.code_laws.specs.Views.{View, number_home, pair_home}

@@ -11,7 +11,8 @@ use Rattle.mx_base.specs.World.{World, with_store}
 use Rattle.x86_forms.specs.Processor.{Processor, with_reg, with_bounds}
 use Rattle.obj_file.specs.Loaded.{configuration}
 use Rattle.obj_file.specs.Stored.{is_touched}
-use Rattle.step_code.specs.Pieces.{Home, Reg, Slot, Bnd}
+use Rattle.step_code.specs.declared.homes.Home.{Home}
+use Rattle.step_code.specs.declared.homes.Home.TheVariants.{Reg, Slot, Bnd}
 
 -- ---- what the code of a function sees: the processor, the words of its frame, and the world
 pub record View : Type 0 where

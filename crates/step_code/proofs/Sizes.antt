@@ -6,7 +6,9 @@ use Rattle.std.proofs.lemmas.List.{length-take}
 use Rattle.x86_forms.specs.declared.instr.Instr.TheVariants.{JmpRel, Jcc, CallRel}
 use Rattle.x86_forms.specs.Spelling.{spelling, low_bytes, prefix_bytes, rex_bytes, escape_bytes, operand_bytes, forces_rex, rex_bits, high_bits}
 use Rattle.fat_ir.specs.declared.step.FatStep.{FatStep}
-use Rattle.step_code.specs.Pieces.{Piece, Plain, LoadSlot, KeepSlot, LoadBounds, KeepBounds, LoadCell, Read, Write, LoadPair, KeepPair, Go, GoIf, Hop, Serve, CallTo, instr_of}
+use Rattle.step_code.specs.declared.pieces.Piece.{Piece}
+use Rattle.step_code.specs.declared.pieces.Piece.TheVariants.{Plain, LoadSlot, KeepSlot, LoadBounds, KeepBounds, LoadCell, Read, Write, LoadPair, KeepPair, Go, GoIf, Hop, Serve, CallTo}
+use Rattle.step_code.specs.Pieces.{instr_of}
 use Rattle.step_code.specs.Steps.{Plan, lower}
 use Rattle.step_code.specs.Bytes.{size_of_piece, size_of_pieces, bytes_of_pieces, size_of_steps, bytes_of_steps}
 

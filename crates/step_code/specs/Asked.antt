@@ -5,7 +5,7 @@ use Rattle.fat_ir.specs.declared.step.FatStep.{FatStep}
 use Rattle.fat_ir.specs.declared.step.FatStep.TheVariants as s
 use Rattle.fat_ir.specs.Laws.{LacksLabel}
 use Rattle.fat_ir.specs.Step.{Located, ObjectAt, FunctionAt}
-use Rattle.step_code.specs.Pieces.{Slot}
+use Rattle.step_code.specs.declared.homes.Home.TheVariants.{Slot}
 use Rattle.step_code.specs.Steps.{Plan}
 use Rattle.step_code.specs.Homes.{Apart, IsSlot}
 

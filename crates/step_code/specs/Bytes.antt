@@ -7,7 +7,9 @@ use Rattle.x86_forms.specs.Spelling.{spelling}
 use Rattle.x86_forms.specs.Validity.{valid_of}
 use Rattle.fat_ir.specs.declared.step.FatStep.{FatStep}
 use Rattle.fat_ir.specs.declared.step.FatStep.TheVariants as s
-use Rattle.step_code.specs.Pieces.{Piece, Plain, instr_of}
+use Rattle.step_code.specs.declared.pieces.Piece.{Piece}
+use Rattle.step_code.specs.declared.pieces.Piece.TheVariants.{Plain}
+use Rattle.step_code.specs.Pieces.{instr_of}
 use Rattle.step_code.specs.Steps.{Plan, get, get_bounds, lower}
 
 -- ---- pieces

@@ -4,7 +4,8 @@ use Rattle.fat_ir.specs.declared.step.FatStep.{FatStep}
 use Rattle.fat_ir.specs.declared.step.FatStep.TheVariants as s
 use Rattle.fat_ir.specs.declared.program.FatFun.{FatFun}
 use Rattle.fat_ir.specs.Spans.{JumpsToLabel, Range, Holds, Spans}
-use Rattle.step_code.specs.Pieces.{Home, Reg, Slot, Bnd}
+use Rattle.step_code.specs.declared.homes.Home.{Home}
+use Rattle.step_code.specs.declared.homes.Home.TheVariants.{Reg, Slot, Bnd}
 use Rattle.step_code.specs.Steps.{Plan}
 
 -- a register that code of functions may write: neither the stack pointer nor one that C never touches

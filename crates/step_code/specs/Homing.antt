@@ -6,7 +6,10 @@ use Rattle.x86_forms.specs.declared.instr.Instr.TheVariants.{MovImm, Bndmk}
 use Rattle.x86_forms.specs.Examples.{reg}
 use Rattle.fat_ir.specs.Functions.{Parameter}
 use Rattle.step_code.specs.Steps.{Plan, put, put_bounds, arg_reg}
-use Rattle.step_code.specs.Pieces.{Home, Reg, Slot, Bnd, Piece, Plain, KeepSlot}
+use Rattle.step_code.specs.declared.homes.Home.{Home}
+use Rattle.step_code.specs.declared.homes.Home.TheVariants.{Reg, Slot, Bnd}
+use Rattle.step_code.specs.declared.pieces.Piece.{Piece}
+use Rattle.step_code.specs.declared.pieces.Piece.TheVariants.{Plain, KeepSlot}
 
 -- a private variable begins as 0, from rax, or with full bounds, whose two words are 0
 abbrev pub unset_home : Bool → Home → List Piece → List Piece

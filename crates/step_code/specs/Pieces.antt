@@ -1,4 +1,4 @@
--- Homes of values, and pieces: the instructions that the code of a function is made of.
+-- The instructions of pieces, of which the code of a function is made.
 use Rattle.std.specs.Prelude.{ℕ, ◌*◌, true, None, ℤ, pos, ◌-ℤ◌}
 use Rattle.mx_base.specs.declared.numbers.IntKind.{IntKind}
 use Rattle.mx_base.specs.declared.numbers.IntKind.TheVariants.{I8, U8, I16, U16, I32, U32, I64, U64}
@@ -9,36 +9,8 @@ use Rattle.x86_forms.specs.declared.instr.Base.TheVariants.{None as NoBase}
 use Rattle.x86_forms.specs.declared.instr.Rm.TheVariants.{Mem as InMem}
 use Rattle.x86_forms.specs.declared.instr.Instr.TheVariants.{MovTo, MovFrom, Movsxd, Movzx, Movsx, BndmovTo, BndmovFrom, Bndldx, Bndstx, JmpRel, Jcc, CallRel, Syscall}
 use Rattle.x86_forms.specs.Examples.{reg, based, indexed}
-
--- ---- where values live
-
--- a register, so many words above the stack pointer, or a bounds register
-pub data Home : Type 0 where
-  Reg : (r : ℕ) → Home
-  Slot : (k : ℕ) → Home
-  Bnd : (b : ℕ) → Home
-
--- ---- pieces
-
--- an instruction that asks memory for nothing; a word or a pair of bounds of the frame taken to a register or from it; the data stack pointer
--- taken from its cell; a number of a type read at an address, or written; bounds loaded or kept for a pointer; jumps to labels, and over so many
--- bytes; a service; and a call
-pub data Piece : Type 0 where
-  Plain : (i : Instr) → Piece
-  LoadSlot : (r k : ℕ) → Piece
-  KeepSlot : (k r : ℕ) → Piece
-  LoadBounds : (b k : ℕ) → Piece
-  KeepBounds : (k b : ℕ) → Piece
-  LoadCell : (r : ℕ) → Piece
-  Read : (kind : IntKind) → (r p : ℕ) → Piece
-  Write : (kind : IntKind) → (p r : ℕ) → Piece
-  LoadPair : (b p v : ℕ) → Piece
-  KeepPair : (p v b : ℕ) → Piece
-  Go : (label : ℕ) → Piece
-  GoIf : (code label : ℕ) → Piece
-  Hop : (code skip : ℕ) → Piece
-  Serve : Piece
-  CallTo : (symbol : ℕ) → Piece
+use Rattle.step_code.specs.declared.pieces.Piece.{Piece}
+use Rattle.step_code.specs.declared.pieces.Piece.TheVariants.{Plain, LoadSlot, KeepSlot, LoadBounds, KeepBounds, LoadCell, Read, Write, LoadPair, KeepPair, Go, GoIf, Hop, Serve, CallTo}
 
 -- ---- their instructions
 

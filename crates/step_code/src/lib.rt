@@ -2,6 +2,10 @@
 //! arguments and the return, their bytes, and where labels, places of checks and fix-ups stand.
 #![tactic(auto)]
 
+mod homes;
 mod laws;
+mod pieces;
 
+pub use homes::Home;
 pub use laws::{homes_by_spans_are_assigned, pieces_have_one_size, sizes_are_lengths};
+pub use pieces::Piece;
