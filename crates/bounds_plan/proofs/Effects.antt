@@ -1,5 +1,6 @@
 -- The steps of effects do what the effects do.
 use Rattle.std.proofs.Common.{ℕ, ◌+◌, ◌≡◌, ◌≤◌, ◌<◌, refl, sym, ap, ◌∙◌, subst, List, [], ◌∷◌, Option, Some, None, Bool, true, false, arith}
+use Rattle.mx_base.specs.declared.operators.Arithmetic.TheVariants.{Add}
 use Rattle.mx_base.specs.declared.numbers.IntKind.{IntKind}
 use Rattle.mx_base.specs.declared.numbers.IntKind.TheVariants.{U64}
 use Rattle.mx_base.specs.declared.places.Place.{Place as PlaceOf}
@@ -17,7 +18,7 @@ use Rattle.bounds_plan.specs.State.{Pointer, State, Ended, Done, Stopped, M, bin
 use Rattle.bounds_plan.specs.Accesses.{access, judge, allow, read_number as source_read, write_number as source_write, read_pointer, write_pointer}
 use Rattle.bounds_plan.specs.Expressions.{Names}
 use Rattle.bounds_plan.specs.Statements.{part, copy_scalar, copy_scalars, effect}
-use Rattle.bounds_plan.specs.Code.{plus, copied, copied_all, labels_ptr, code_ptr, code_effect}
+use Rattle.bounds_plan.specs.Code.{copied, copied_all, labels_ptr, code_ptr, code_effect}
 use Rattle.bounds_plan.specs.Follows.{FitsEffect, DoesSame}
 use Rattle.bounds_plan.proofs.Words.{word-word}
 use Rattle.bounds_plan.proofs.Sim.{here, read_number, read_bounds, Agree, Sim, beside, NumberIn, PointerIn, agree_on, and_on, on_step, judge_follows, allow_follows}
@@ -38,7 +39,7 @@ module _ (private : ℕ) (sorts : ℕ → Bool) (symbols : Symbols) (names : Nam
   Places to from x u = (u.values d ≡ Number (moved to.address 0)) × (u.values (d + 2) ≡ Number (moved from.address 0))
 
   offset_to : {A : Type 0} (P : A → T → Type 0) (res : Ended A) (n x m to a free : ℕ) (rest : List FatStep) (u : T) → a < free → moved x n ≡ m → u.values a ≡ Number x → Sim private sorts P res (pass symbols rest Next (with_number to m (with_number free n u)))
-      → Sim private sorts P res (pass symbols (s.Const free n ∷ s.Arith to plus U64 a free ∷ rest) Next u)
+      → Sim private sorts P res (pass symbols (s.Const free n ∷ s.Arith to Add U64 a free ∷ rest) Next u)
   offset_to P res n x m to a free rest u low e at h =
       let S : ℕ → Type 0 = λ k. Sim private sorts P res (pass symbols rest Next (with_number to k (with_number free n u))) in
       offset_follows private sorts symbols P res n x to a free rest u low at (subst S (sym e) h)
@@ -82,7 +83,7 @@ module _ (private : ℕ) (sorts : ℕ → Bool) (symbols : Symbols) (names : Nam
       let f5 : u5.values (d + 2) ≡ Number y = under private sorts symbols (d + 2) (d + 4) (Number q.address) (Number y) u4 (omega arith) (under private sorts symbols (d + 2) (d + 4) (Number offset) (Number y) u3 (omega arith) f3) in
       let n5 : u5.values (d + 6) ≡ Number n = over private sorts symbols (d + 6) (d + 4) (Number q.address) (Number n) u4 (omega arith) (over private sorts symbols (d + 6) (d + 4) (Number offset) (Number n) u3 (omega arith) (here (d + 6) (Number n) u2'.values)) in
       let writes : ℕ → M (Unit {0}) = λ n. allow true (size_of kind) q >> source_write kind q n in
-      let rest = s.Const (d + 4) offset ∷ s.Arith (d + 4) plus U64 d (d + 4) ∷ s.Store (d + 4) (d + 6) kind ∷ [] in
+      let rest = s.Const (d + 4) offset ∷ s.Arith (d + 4) Add U64 d (d + 4) ∷ s.Store (d + 4) (d + 6) kind ∷ [] in
       let st3 : State = record { numbers = numbers; pairs = pairs; world = u5.world; log = access false (size_of kind) p log } in
       offset_to (Places to from) (copy_scalar (Some kind) q p (beside private sorts numbers pairs log u)) offset y p.address (d + 6) (d + 2) (d + 4) (s.Load (d + 6) (d + 6) kind ∷ rest) u (omega arith) (moved_twice from.address offset) at.1
       (allow_follows private sorts symbols (Places to from) false (size_of kind) p (source_read kind p >>= writes) (s.Load (d + 6) (d + 6) kind) rest (beside private sorts numbers pairs log u2) u2 (number_loaded p.address (d + 6) kind u2) refl (read_number _ (here (d + 6) (Number p.address) u1.values))
@@ -103,7 +104,7 @@ module _ (private : ℕ) (sorts : ℕ → Bool) (symbols : Symbols) (names : Nam
       let d2 : u2.values d ≡ Number x = under private sorts symbols d (d + 6) (Number p.address) (Number x) u1 (omega arith) (under private sorts symbols d (d + 4) (Number offset) (Number x) u (omega arith) at.0) in
       let f2 : u2.values (d + 2) ≡ Number y = under private sorts symbols (d + 2) (d + 6) (Number p.address) (Number y) u1 (omega arith) (under private sorts symbols (d + 2) (d + 4) (Number offset) (Number y) u (omega arith) at.1) in
       let writes : Pointer → M (Unit {0}) = λ v. allow true 8 q >> write_pointer q v in
-      let rest = s.Const (d + 4) offset ∷ s.Arith (d + 4) plus U64 d (d + 4) ∷ s.StorePtr (d + 4) (d + 6) (d + 6 + 1) ∷ [] in
+      let rest = s.Const (d + 4) offset ∷ s.Arith (d + 4) Add U64 d (d + 4) ∷ s.StorePtr (d + 4) (d + 6) (d + 6 + 1) ∷ [] in
       offset_to (Places to from) (copy_scalar None q p (beside private sorts numbers pairs log u)) offset y p.address (d + 6) (d + 2) (d + 4) (s.LoadPtr (d + 6) (d + 6) (d + 6 + 1) ∷ rest) u (omega arith) (moved_twice from.address offset) at.1
       (allow_follows private sorts symbols (Places to from) false 8 p (read_pointer p >>= writes) (s.LoadPtr (d + 6) (d + 6) (d + 6 + 1)) rest (beside private sorts numbers pairs log u2) u2 (pointer_came (d + 6) (d + 6 + 1) (pointer_read u2.world p.address) u2) refl (read_number _ (here (d + 6) (Number p.address) u1.values))
       (then_on (PointerIn private sorts (d + 6) u2) (Places to from) (read_pointer p (beside private sorts numbers pairs log u2)) (pointer_came (d + 6) (d + 6 + 1) (pointer_read u2.world p.address) u2) rest writes

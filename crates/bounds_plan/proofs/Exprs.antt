@@ -4,21 +4,21 @@ use Rattle.std.specs.Prelude.{◌≢◌}
 use Rattle.mx_base.specs.Numbers.{size_of, extended}
 use Rattle.mx_base.specs.Memory.{number_at}
 use Rattle.mx_base.specs.declared.numbers.IntKind.TheVariants.{U64}
+use Rattle.mx_base.specs.declared.services.CService.TheVariants as in_c
 use Rattle.mx_base.specs.Operators.{word_arithmetic, word_compares}
 use Rattle.mx_base.specs.Bounds.{addresses, full_bounds, met, moved, bounds_at}
 use Rattle.mx_base.specs.World.{MadeAt, FullBy, NullConstant, InitBuiltin, FromInteger as WasInteger, pointer_read, read_noted}
 use Rattle.fat_ir.specs.declared.step.FatStep.TheVariants as s
 use Rattle.fat_ir.specs.Values.{Number, Pair}
-use Rattle.fat_ir.specs.Step.{Located, pointer_into, Symbols, Next, Reached, On, with_number, with_pair, with_pointer, with_world, operated, compared, came_back, served_in_c, pointer_came, number_loaded}
+use Rattle.fat_ir.specs.Step.{Located, pointer_into, Symbols, Next, Reached, On, with_number, with_pair, with_pointer, with_world, came_back, served_in_c, pointer_came, number_loaded}
 use Rattle.fat_ir.specs.Run.{pass, and_then}
 use Rattle.bounds_plan.proofs.Fresh.{fresh, fresh_ptr}
 use Rattle.bounds_plan.specs.Core.{NumberExpr, Word, Variable, Assign, Operate, Compare, Convert, AsNumber, Load, Store, Update, UpdateAt, And, Or, Choose, Call, Serve, Ask, PointerExpr, Null, FromInteger, Function, Object, InFrame, VariablePtr, AssignPtr, Member, Element, ElementAfter, LoadPtr, StorePtr, Advance, AdvanceAt, ChoosePtr, CallPtr, Alloc, SetBounds, NarrowBounds, CopyBounds, InitBounds, BoundOf, Arguments, NoMore, WithNumber, WithPointer}
 use Rattle.bounds_plan.specs.State.{Pointer, OfNumber, OfPointer, Done, M, bind, ◌>>=◌, ◌>>◌, pure, set_variable, with_cause, with_made, place_of}
 use Rattle.bounds_plan.specs.Accesses.{load_ptr, store_ptr, read_number as source_read, read_pointer, allow}
 use Rattle.bounds_plan.specs.Expressions.{Names, number, pointer, arguments, operate, object, either, block, calling, number_passed, pointer_passed, step}
-use Rattle.bounds_plan.specs.Code.{operator, comparison, plus_or_minus, before_or_after, arguments_at, labels, labels_ptr, code, code_ptr, codes}
+use Rattle.bounds_plan.specs.Code.{plus_or_minus, before_or_after, arguments_at, labels, labels_ptr, code, code_ptr, codes}
 use Rattle.bounds_plan.specs.Follows.{Fits, FitsPtr, FitsAll, DoesSame}
-use Rattle.bounds_plan.proofs.Words.{operator-back, comparison-back}
 use Rattle.bounds_plan.proofs.Sim.{here, there, read_number, read_bounds, read_held_number, read_held_pair, beside, NumberIn, PointerIn, agree_on, stay_on, RunsTo, and_on, on_step, judge_follows, allow_follows}
 use Rattle.bounds_plan.proofs.Pieces.{SimN, SimP, finish_number, kept_number, kept_pair, stay_join, home_number, home_pair, finish_pair, finish_pointer, finish_came, Same, stores_number, stores_pointer, same_stay, of_same, full_at_0, finish_front, finish_full, finish_object, weaken, chooses, made_of, finish_operated, under, over, finish_set, operate_follows, both, one_of, finish_served, serves, finish_block, finish_update, scale_follows, finish_member, finish_element, finish_element_after, update_at, advance_at, advance, finish_set_ptr, ArgumentsIn, read_none, read_one, read_two, reads, came_number, came_pointer}
 
@@ -40,14 +40,14 @@ module _ (private : ℕ) (sorts : ℕ → Bool) where
             (λ n numbers pairs log w a there_at.
             let one : w.values d ≡ Number m = kept_number private sorts symbols (d + 2) d m u w above (omega arith) at.0 there_at.1 in
             let S : Reached → Type 0 = λ r. SimN private sorts symbols d t (operate op kind m n (beside private sorts numbers pairs log w)) (and_then r (pass symbols [])) in
-            subst S (sym (read_number _ one ∙ read_number _ there_at.0 ∙ ap (λ o. operated d o kind m n w) (operator-back op)))
+            subst S (sym (read_number _ one ∙ read_number _ there_at.0))
             (finish_operated private sorts symbols d t numbers pairs log (word_arithmetic op kind m n) w above a (stay_join private sorts symbols d (d + 2) t u w (omega arith) at.1 there_at.1))))
         runs (Compare op kind x y) d l above fit numbers pairs log t a = and_on private sorts symbols (NumberIn private sorts d t) (NumberIn private sorts d t) _ (code x d l) _ t _ (runs x d l above fit.0 numbers pairs log t a)
             (λ m numbers pairs log u a at. and_on private sorts symbols (NumberIn private sorts (d + 2) u) (NumberIn private sorts d t) _ (code y (d + 2) (l + labels x)) _ u _ (runs y (d + 2) (l + labels x) (omega (arith, above)) fit.1 numbers pairs log u a)
             (λ n numbers pairs log w a there_at.
             let one : w.values d ≡ Number m = kept_number private sorts symbols (d + 2) d m u w above (omega arith) at.0 there_at.1 in
-            finish_number private sorts symbols d t numbers pairs log (s.Compare d (comparison op) kind d (d + 2)) w (word_compares op kind m n) w.world above a (stay_join private sorts symbols d (d + 2) t u w (omega arith) at.1 there_at.1)
-            (read_number _ one ∙ read_number _ there_at.0 ∙ ap (λ o. compared d o kind m n w) (comparison-back op))))
+            finish_number private sorts symbols d t numbers pairs log (s.Compare d op kind d (d + 2)) w (word_compares op kind m n) w.world above a (stay_join private sorts symbols d (d + 2) t u w (omega arith) at.1 there_at.1)
+            (read_number _ one ∙ read_number _ there_at.0)))
         runs (Convert kind e) d l above fit numbers pairs log t a = and_on private sorts symbols (NumberIn private sorts d t) (NumberIn private sorts d t) _ (code e d l) _ t _ (runs e d l above fit numbers pairs log t a)
             (λ n numbers pairs log u a at. finish_number private sorts symbols d t numbers pairs log (s.Extend d d kind) u (extended kind n) u.world above a at.1 (read_number _ at.0))
         runs (AsNumber p) d l above fit numbers pairs log t a = made_of private sorts symbols (PointerIn private sorts d t) (NumberIn private sorts d t) (λ p. p.address) _ _ (runs_ptr p d l above fit numbers pairs log t a) (λ p u at. (at.0, at.2))
@@ -82,7 +82,7 @@ module _ (private : ℕ) (sorts : ℕ → Bool) where
             let a1 = agree_on private sorts numbers pairs (d + 2) (Number before) u (omega (arith, above)) a in
             let go = λ (after : ℕ). set_variable x (extended kind after) >> pure (either old before (extended kind after)) in
             let rest = s.Extend d d kind ∷ s.Copy x d ∷ s.Copy d (before_or_after old (d + 2) d) ∷ [] in
-            on_step private sorts symbols (NumberIn private sorts d t) (bind (operate op common before n (beside private sorts numbers pairs log u)) go) (s.Copy (d + 2) x) (s.Arith d (operator op) common (d + 2) d ∷ rest) u one (read_held_number _ (a x fit.0.0 ∙ home_number private sorts symbols numbers pairs x fit.0.1))
+            on_step private sorts symbols (NumberIn private sorts d t) (bind (operate op common before n (beside private sorts numbers pairs log u)) go) (s.Copy (d + 2) x) (s.Arith d op common (d + 2) d ∷ rest) u one (read_held_number _ (a x fit.0.0 ∙ home_number private sorts symbols numbers pairs x fit.0.1))
             (operate_follows private sorts symbols (NumberIn private sorts d t) op common before n d (d + 2) d go rest (beside private sorts numbers pairs log u) one refl (here (d + 2) (Number before) u.values) (under private sorts symbols d (d + 2) (Number before) (Number n) u (omega arith) at.0)
             (λ r. finish_update private sorts symbols d x kind old before r t numbers pairs log one above fit.0.0 fit.0.1 a1 st1 (here (d + 2) (Number before) u.values))))
         runs (And x y) d l above fit numbers pairs log t a = and_on private sorts symbols (NumberIn private sorts d t) (NumberIn private sorts d t) _ (code x d (l + 3)) _ t _ (runs x d (l + 3) above fit.0 numbers pairs log t a)
@@ -91,9 +91,9 @@ module _ (private : ℕ) (sorts : ℕ → Bool) where
         runs (Or x y) d l above fit numbers pairs log t a = and_on private sorts symbols (NumberIn private sorts d t) (NumberIn private sorts d t) _ (code x d (l + 2)) _ t _ (runs x d (l + 2) above fit.0 numbers pairs log t a)
             (λ n numbers pairs log u a at. one_of private sorts symbols d l n (code y d (l + 2 + labels x)) (number names y) t numbers pairs log u above (fresh y d (l + 2 + labels x) l record { is = λ p. absurd (omega (arith, p)) }) a at.0 at.1
             (weaken private sorts symbols (NumberIn private sorts d u) (NumberIn private sorts d t) _ _ (runs y d (l + 2 + labels x) above fit.1 numbers pairs log u a) (λ v w got. (got.0, stay_join private sorts symbols d d t u w (omega arith) at.1 got.1))))
-        runs (Serve n e) d l above fit numbers pairs log t a = and_on private sorts symbols (NumberIn private sorts d t) (NumberIn private sorts d t) _ (code e d l) _ t _ (runs e d l above fit numbers pairs log t a)
-            (λ word numbers pairs log u a at. serves private sorts symbols n word d d t numbers pairs log u above a at.1 at.0)
-        runs (Ask n) d l above fit numbers pairs log t a = finish_served private sorts symbols d t numbers pairs log (served_in_c n 0 t.world) t above a (λ v p q. refl)
+        runs (Serve service e) d l above fit numbers pairs log t a = and_on private sorts symbols (NumberIn private sorts d t) (NumberIn private sorts d t) _ (code e d l) _ t _ (runs e d l above fit numbers pairs log t a)
+            (λ word numbers pairs log u a at. serves private sorts symbols service word d d t numbers pairs log u above a at.1 at.0)
+        runs (Ask service) d l above fit numbers pairs log t a = finish_served private sorts symbols d t numbers pairs log (served_in_c service 0 t.world) t above a (λ v p q. refl)
         runs (UpdateAt kind place p op common e old) d l above fit numbers pairs log t a = and_on private sorts symbols (PointerIn private sorts d t) (NumberIn private sorts d t) _ (code_ptr p d l) _ t _ (runs_ptr p d l above fit.0 numbers pairs log t a)
             (λ q numbers pairs log u a at. and_on private sorts symbols (NumberIn private sorts (d + 2) u) (NumberIn private sorts d t) _ (code e (d + 2) (l + labels_ptr p)) _ u _ (runs e (d + 2) (l + labels_ptr p) (omega (arith, above)) fit.1 numbers pairs log u a)
             (λ n numbers pairs log w a there_at. update_at private sorts symbols kind place op common old d q n t numbers pairs log w above a (stay_join private sorts symbols d (d + 2) t u w (omega arith) at.2 there_at.1)
@@ -165,7 +165,7 @@ module _ (private : ℕ) (sorts : ℕ → Bool) where
             (weaken private sorts symbols (PointerIn private sorts d u) (PointerIn private sorts d t) _ _ (runs_ptr x d (l + 2 + labels test + labels_ptr y) above fit.1 numbers pairs log u a) (λ v w got. (got.0, got.1, stay_join private sorts symbols d d t u w (omega arith) at.1 got.2)))
             (weaken private sorts symbols (PointerIn private sorts d u) (PointerIn private sorts d t) _ _ (runs_ptr y d (l + 2 + labels test) above fit.2 numbers pairs log u a) (λ v w got. (got.0, got.1, stay_join private sorts symbols d d t u w (omega arith) at.1 got.2))))
         runs_ptr (Alloc e) d l above fit numbers pairs log t a = and_on private sorts symbols (NumberIn private sorts d t) (PointerIn private sorts d t) _ (code e d (l + 1)) _ t _ (runs e d (l + 1) above fit numbers pairs log t a)
-            (λ n numbers pairs log u a at. and_on private sorts symbols (NumberIn private sorts (d + 2) u) (PointerIn private sorts d t) _ (s.Service 3 (Some d) (Some (d + 2)) ∷ []) (s.JumpIf (d + 2) l ∷ s.Const d 0 ∷ s.Label l ∷ s.Make (d + 1) (d + 2) d ∷ s.Copy d (d + 2) ∷ []) u (λ x. block n x) (serves private sorts symbols 3 n d (d + 2) u numbers pairs log u (omega (arith, above)) a (λ v p q. refl) at.0)
+            (λ n numbers pairs log u a at. and_on private sorts symbols (NumberIn private sorts (d + 2) u) (PointerIn private sorts d t) _ (s.Service in_c.Alloc (Some d) (Some (d + 2)) ∷ []) (s.JumpIf (d + 2) l ∷ s.Const d 0 ∷ s.Label l ∷ s.Make (d + 1) (d + 2) d ∷ s.Copy d (d + 2) ∷ []) u (λ x. block n x) (serves private sorts symbols in_c.Alloc n d (d + 2) u numbers pairs log u (omega (arith, above)) a (λ v p q. refl) at.0)
             (λ x numbers pairs log w a got. finish_block private sorts symbols d l n x t numbers pairs log w above a (stay_join private sorts symbols d (d + 2) t u w (omega arith) at.1 got.1) (kept_number private sorts symbols (d + 2) d n u w above (omega arith) at.0 got.1) got.0))
         runs_ptr (AssignPtr x e) d l above fit numbers pairs log t a = and_on private sorts symbols (PointerIn private sorts d t) (PointerIn private sorts d t) _ (code_ptr e d l) _ t _ (runs_ptr e d l above fit.1 numbers pairs log t a)
             (λ p numbers pairs log u a at. finish_set_ptr private sorts symbols d x p t numbers pairs log u above fit.0.0 fit.0.1 fit.0.2 a at.2 at.0 at.1)

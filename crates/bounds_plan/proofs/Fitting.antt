@@ -4,7 +4,10 @@ use Rattle.std.specs.Prelude.{Option, None, Some, slice_get}
 use Rattle.mx_base.specs.declared.numbers.IntKind.{IntKind}
 use Rattle.mx_base.specs.declared.numbers.IntKind.TheVariants.{I32, I64, U64}
 use Rattle.mx_base.specs.declared.places.Place.{Place}
-use Rattle.mx_base.specs.Operators.{Arithmetic, Times, Over, Rest, Plus, Minus, Left, Right, BitAnd, BitXor, BitOr, Comparison, arithmetic_at, comparison_at}
+use Rattle.mx_base.specs.declared.operators.Arithmetic.{Arithmetic}
+use Rattle.mx_base.specs.declared.operators.Arithmetic.TheVariants.{Mul, Div, Rem, Add, Sub, Shl, Shr, BitAnd, BitXor, BitOr}
+use Rattle.mx_base.specs.declared.operators.Comparison.{Comparison}
+use Rattle.mx_base.specs.Operators.{arithmetic_at, comparison_at}
 use Rattle.narrowing.specs.declared.member.Rule.{Rule}
 use Rattle.narrowing.specs.declared.member.Rule.TheVariants.{Keep, Meet}
 use Rattle.c_tree.specs.declared.tree.ExprKind.{ExprKind-F}
@@ -72,13 +75,13 @@ module _ (private : ℕ) (is_bounds : ℕ → Bool) (takes : ℕ → ℕ) where
   converted_fits from to e h = kept_or_converted (keeps from to) to e h
 
   right_fits : (op : Arithmetic) (from to : IntKind) (e : NumberExpr) → Fits private is_bounds takes e → Fits private is_bounds takes (right_operand op from to e)
-  right_fits Times from to e h = converted_fits from to e h
-  right_fits Over from to e h = converted_fits from to e h
-  right_fits Rest from to e h = converted_fits from to e h
-  right_fits Plus from to e h = converted_fits from to e h
-  right_fits Minus from to e h = converted_fits from to e h
-  right_fits Left from to e h = h
-  right_fits Right from to e h = h
+  right_fits Mul from to e h = converted_fits from to e h
+  right_fits Div from to e h = converted_fits from to e h
+  right_fits Rem from to e h = converted_fits from to e h
+  right_fits Add from to e h = converted_fits from to e h
+  right_fits Sub from to e h = converted_fits from to e h
+  right_fits Shl from to e h = h
+  right_fits Shr from to e h = h
   right_fits BitAnd from to e h = converted_fits from to e h
   right_fits BitXor from to e h = converted_fits from to e h
   right_fits BitOr from to e h = converted_fits from to e h
@@ -220,7 +223,7 @@ module _ (private : ℕ) (is_bounds : ℕ → Bool) (takes : ℕ → ℕ) where
       (changed_fits around.structs (compound_at op) a (kind_of b.type) (number_in b.value) false h (number_fits b.value k.value))
 
   stepped_fits : (around : Around) (up before : Bool) (a : Found) (place : Place) (after : Reached) → FitsFound a → FitsFound (stepped_by around up before a place after)
-  stepped_fits around up before a place after h = no_place_fits a.type _ place after (changed_fits around.structs (if up then Plus else Minus) a I32 (Word 1) (not before) h tt)
+  stepped_fits around up before a place after h = no_place_fits a.type _ place after (changed_fits around.structs (if up then Add else Sub) a I32 (Word 1) (not before) h tt)
 
   -- ---- calls
 

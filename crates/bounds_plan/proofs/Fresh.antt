@@ -60,8 +60,8 @@ mutual
         lacks-append k (code a d (l + 2 + labels test + labels b)) _ (fresh a d (l + 2 + labels test + labels b) k (part (l + 2 + labels test + labels b) (labels a) (omega arith) (omega arith) out)) (own (l + 1) (omega arith) (omega arith) out, tt),
       ))
   fresh (Call symbol args) d l k out = lacks-append k (codes args d l) _ (fresh_all args d l k out) tt
-  fresh (Serve n e) d l k out = lacks-append k (code e d l) _ (fresh e d l k out) tt
-  fresh (Ask n) d l k out = tt
+  fresh (Serve service e) d l k out = lacks-append k (code e d l) _ (fresh e d l k out) tt
+  fresh (Ask service) d l k out = tt
 
   pub fresh_ptr : (e : PointerExpr) (d l k : ℕ) → IsOutside k l (labels_ptr e) → LacksLabel k (code_ptr e d l)
   fresh_ptr Null d l k out = tt

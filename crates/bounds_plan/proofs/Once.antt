@@ -2,6 +2,7 @@
 use Rattle.std.proofs.Common.{ℕ, zero, suc, ◌+◌, ◌≡◌, ◌≤◌, ◌<◌, refl, ap, cond, ◌==◌, List, [], ◌∷◌, ◌++◌, Option, Some, None, Bool, true, false, arith}
 use Rattle.std.specs.Prelude.{◌≢◌, length}
 use Rattle.std.proofs.lemmas.Bool.Decides.{nat_tests}
+use Rattle.mx_base.specs.declared.services.CService.TheVariants as in_c
 use Rattle.mx_base.specs.declared.numbers.IntKind.{IntKind}
 use Rattle.mx_base.specs.declared.numbers.IntKind.TheVariants.{U64}
 use Rattle.narrowing.specs.declared.member.Rule.{Rule}
@@ -168,8 +169,8 @@ mutual
   counted k (Choose test a b) d l = chosen k l (labels test) (labels b) (labels a) (code test d (l + 2)) (code a d (l + 2 + labels test + labels b)) (code b d (l + 2 + labels test)) d
       (counted k test d (l + 2)) (counted k b d (l + 2 + labels test)) (counted k a d (l + 2 + labels test + labels b))
   counted k (Call symbol args) d l = one_part k l (labels_all args) (codes args d l) _ (counted_all k args d l) refl
-  counted k (Serve n e) d l = one_part k l (labels e) (code e d l) _ (counted k e d l) refl
-  counted k (Ask n) d l = refl
+  counted k (Serve service e) d l = one_part k l (labels e) (code e d l) _ (counted k e d l) refl
+  counted k (Ask service) d l = refl
 
   counted_ptr : (k : ℕ) (e : PointerExpr) (d l : ℕ) → times k (code_ptr e d l) ≡ inside k l (labels_ptr e)
   counted_ptr k Null d l = refl
@@ -191,7 +192,7 @@ mutual
   counted_ptr k (CallPtr symbol args) d l = one_part k l (labels_all args) (codes args d l) _ (counted_all k args d l) refl
   counted_ptr k (Alloc e) d l =
       let ce = code e d (l + 1) in
-      let x = times-append k ce (s.Service 3 (Some d) (Some (d + 2)) ∷ s.JumpIf (d + 2) l ∷ s.Const d 0 ∷ s.Label l ∷ s.Make (d + 1) (d + 2) d ∷ s.Copy d (d + 2) ∷ []) in
+      let x = times-append k ce (s.Service in_c.Alloc (Some d) (Some (d + 2)) ∷ s.JumpIf (d + 2) l ∷ s.Const d 0 ∷ s.Label l ∷ s.Make (d + 1) (d + 2) d ∷ s.Copy d (d + 2) ∷ []) in
       let h = counted k e d (l + 1) in
       let t = inside-add k l 1 (labels e) in
       omega (arith, x, h, t)
@@ -363,8 +364,8 @@ module _ (J : ℕ → Type 0) where
         choosing l (labels test) (labels b) (labels a) (code test d (l + 2)) (code a d (l + 2 + labels test + labels b)) (code b d (l + 2 + labels test)) d h (jumps test d (l + 2) (some-of l n (l + 2) (labels test) (omega arith) (omega arith) h))
         (jumps b d (l + 2 + labels test) (some-of l n (l + 2 + labels test) (labels b) (omega arith) (omega arith) h)) (jumps a d (l + 2 + labels test + labels b) (some-of l n (l + 2 + labels test + labels b) (labels a) (omega arith) (omega arith) h))
     jumps (Call symbol args) d l h = join (codes args d l) _ (jumps_all args d l h) tt
-    jumps (Serve n e) d l h = join (code e d l) _ (jumps e d l h) tt
-    jumps (Ask n) d l h = tt
+    jumps (Serve service e) d l h = join (code e d l) _ (jumps e d l h) tt
+    jumps (Ask service) d l h = tt
 
     jumps_ptr : (e : PointerExpr) (d l : ℕ) → In l (labels_ptr e) → JumpsTo J (code_ptr e d l)
     jumps_ptr Null d l h = tt

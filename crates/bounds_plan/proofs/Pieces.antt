@@ -1,13 +1,16 @@
 -- Steps beside what they mean, as pieces of expressions.
 use Rattle.std.proofs.Common.{ℕ, zero, suc, ◌+◌, ◌*◌, ◌%◌, ◌≡◌, ◌≤◌, ◌<◌, refl, sym, ap, ◌∙◌, subst, length, List, [], ◌∷◌, ◌++◌, Option, Some, None, Bool, true, false, cond, ◌==◌, arith, Result, Ok, Err}
 use Rattle.std.specs.Prelude.{◌≢◌}
+use Rattle.mx_base.specs.declared.services.CService.{CService}
 use Rattle.mx_base.specs.declared.limits.Bounds.{Bounds as BoundsPair}
 use Rattle.mx_base.specs.declared.numbers.IntKind.{IntKind}
 use Rattle.mx_base.specs.declared.places.Place.{Place as PlaceOf}
 use Rattle.mx_base.specs.Numbers.{size_of, extended}
 use Rattle.mx_base.specs.Memory.{number_at}
 use Rattle.mx_base.specs.declared.numbers.IntKind.TheVariants.{U64}
-use Rattle.mx_base.specs.Operators.{Arithmetic, Times, Plus, Minus, word_arithmetic}
+use Rattle.mx_base.specs.declared.operators.Arithmetic.{Arithmetic}
+use Rattle.mx_base.specs.declared.operators.Arithmetic.TheVariants.{Mul, Add, Sub}
+use Rattle.mx_base.specs.Operators.{word_arithmetic}
 use Rattle.mx_base.specs.Bounds.{addresses, full_bounds, met, moved, bounds_at}
 use Rattle.mx_base.specs.Access.{Refusal}
 use Rattle.mx_base.specs.Services.{Served, Answers, Exits, Overflows, Refused}
@@ -17,7 +20,7 @@ use Rattle.fat_ir.specs.declared.step.FatStep.{FatStep}
 use Rattle.fat_ir.specs.declared.step.FatStep.TheVariants as s
 use Rattle.fat_ir.specs.Values.{Held, Number, Pair, Value, with_held}
 use Rattle.fat_ir.specs.Calls.{Stops as StopsAt}
-use Rattle.fat_ir.specs.Step.{Located, ObjectAt, FunctionAt, pointer_into, Symbols, State as T, Next, To, Reached, On, Over, with_value, with_number, with_pair, with_pointer, with_world, arguments_then, does, computed, operated, answered, came_back, served_in_c, pointer_came, pointer_went, number_loaded, number_stored}
+use Rattle.fat_ir.specs.Step.{Located, ObjectAt, FunctionAt, pointer_into, Symbols, State as T, Next, To, Reached, On, Over, with_value, with_number, with_pair, with_pointer, with_world, arguments_then, does, computed, answered, came_back, served_in_c, pointer_came, pointer_went, number_loaded, number_stored}
 use Rattle.fat_ir.specs.Run.{pass, and_then}
 use Rattle.fat_ir.specs.Laws.{LacksLabel}
 use Rattle.fat_ir.proofs.Lists.{pass-append, pass-over, pass-here}
@@ -26,12 +29,12 @@ use Rattle.bounds_plan.specs.Core.{Arguments}
 use Rattle.bounds_plan.specs.State.{Pointer, Passed, OfNumber, OfPointer, State, Ended, Done, Stopped, M, bind, ◌>>=◌, ◌>>◌, pure, stored, with_cause, with_made, place_of}
 use Rattle.bounds_plan.specs.Accesses.{load, store, load_ptr, store_ptr, read_number as source_read, write_number as source_write, read_pointer, write_pointer, allow, came, went, with_root}
 use Rattle.bounds_plan.specs.Expressions.{Answer, Comes, Stops, operate, divided, object, choose, truth, either, serving, served_with, block, answered_with, number_passed, pointer_passed, step, stepped, with_address, member}
-use Rattle.bounds_plan.specs.Code.{full, operator, plus, plus_or_minus, before_or_after, arguments_at, ruled, offset_by, scaled, code}
+use Rattle.bounds_plan.specs.Code.{full, plus_or_minus, before_or_after, arguments_at, ruled, offset_by, scaled, code}
 use Rattle.bounds_plan.specs.Follows.{count, values_of, outcome_of}
 use Rattle.narrowing.specs.declared.member.Rule.{Rule}
 use Rattle.narrowing.specs.declared.member.Rule.TheVariants.{Keep, Meet as MeetRule}
 use Rattle.narrowing.specs.Member.{bounds_by}
-use Rattle.bounds_plan.proofs.Words.{operator-back, plus-word, times-word, less-word, more-word}
+use Rattle.bounds_plan.proofs.Words.{plus-word, times-word, less-word, more-word}
 use Rattle.bounds_plan.proofs.Sim.{here, there, read_number, read_bounds, read_held_number, read_held_pair, first_step, home, Agree, Stay, Sim, beside, NumberIn, PointerIn, agree_on, stay_on, and_on, on_step, judge_follows, allow_follows}
 
 module _ (private : ℕ) (sorts : ℕ → Bool) where
@@ -246,18 +249,18 @@ module _ (private : ℕ) (sorts : ℕ → Bool) where
 
     -- an operator on both sides, and then the rest
     pub operate_follows : {A : Type 0} (P : A → T → Type 0) (op : Arithmetic) (kind : IntKind) (x y to a b : ℕ) (go : ℕ → M A) (rest : List FatStep) (st : State) (u : T) → st.world ≡ u.world → u.values a ≡ Number x → u.values b ≡ Number y
-        → ((n : ℕ) → Sim private sorts P (go n st) (pass symbols rest Next (with_number to n u))) → Sim private sorts P (bind (operate op kind x y st) go) (pass symbols (s.Arith to (operator op) kind a b ∷ rest) Next u)
+        → ((n : ℕ) → Sim private sorts P (go n st) (pass symbols rest Next (with_number to n u))) → Sim private sorts P (bind (operate op kind x y st) go) (pass symbols (s.Arith to op kind a b ∷ rest) Next u)
     operate_follows P op kind x y to a b go rest st u same at_a at_b h =
         let S : Reached → Type 0 = λ r. Sim private sorts P (bind (operate op kind x y st) go) r in
-        subst S (sym (ap (λ r. and_then r (pass symbols rest)) (read_number _ at_a ∙ read_number _ at_b ∙ ap (λ o. operated to o kind x y u) (operator-back op)))) (by_cases (word_arithmetic op kind x y) h)
+        subst S (sym (ap (λ r. and_then r (pass symbols rest)) (read_number _ at_a ∙ read_number _ at_b))) (by_cases (word_arithmetic op kind x y) h)
       where
         by_cases : (o : Option ℕ) → ((n : ℕ) → Sim private sorts P (go n st) (pass symbols rest Next (with_number to n u))) → Sim private sorts P (bind (divided o st) go) (and_then (computed to o u) (pass symbols rest))
         by_cases None h = ap (λ w. Over (StopsAt Divide w)) (sym same)
         by_cases (Some n) h = h n
 
     -- an operator that always has a result
-    pub arith_step : (op : Arithmetic) (kind : IntKind) (x y to a b n : ℕ) (u : T) → u.values a ≡ Number x → u.values b ≡ Number y → word_arithmetic op kind x y ≡ Some n → does symbols (s.Arith to (operator op) kind a b) u ≡ On Next (with_number to n u)
-    arith_step op kind x y to a b n u at_a at_b e = read_number _ at_a ∙ read_number _ at_b ∙ ap (λ o. operated to o kind x y u) (operator-back op) ∙ ap (λ o. computed to o u) e
+    pub arith_step : (op : Arithmetic) (kind : IntKind) (x y to a b n : ℕ) (u : T) → u.values a ≡ Number x → u.values b ≡ Number y → word_arithmetic op kind x y ≡ Some n → does symbols (s.Arith to op kind a b) u ≡ On Next (with_number to n u)
+    arith_step op kind x y to a b n u at_a at_b e = read_number _ at_a ∙ read_number _ at_b ∙ ap (λ o. computed to o u) e
 
     -- one of two values is copied to the front
     pub copy_either : (old : Bool) (x y d v w : ℕ) (u : T) → u.values v ≡ Number x → u.values w ≡ Number y → does symbols (s.Copy d (before_or_after old v w)) u ≡ On Next (with_number d (either old x y) u)
@@ -329,11 +332,11 @@ module _ (private : ℕ) (sorts : ℕ → Bool) where
     finish_served d t numbers pairs log Overflows u above a st = refl
     finish_served d t numbers pairs log (Refused why) u above a st = refl
 
-    pub serves : (n word d to : ℕ) (t : T) (numbers : ℕ → ℕ) (pairs : ℕ → Rooted) (log : Log) (u : T) → private ≤ to → Agree private sorts numbers pairs u → Stay private sorts to t u → u.values d ≡ Number word
-        → SimN to t (serving n word (beside private sorts numbers pairs log u)) (pass symbols (s.Service n (Some d) (Some to) ∷ []) Next u)
-    serves n word d to t numbers pairs log u above a st at =
-        let S : Reached → Type 0 = λ r. SimN to t (serving n word (beside private sorts numbers pairs log u)) (and_then r (pass symbols [])) in
-        subst S (sym (read_number _ at)) (finish_served to t numbers pairs log (served_in_c n word u.world) u above a st)
+    pub serves : (service : CService) (word d to : ℕ) (t : T) (numbers : ℕ → ℕ) (pairs : ℕ → Rooted) (log : Log) (u : T) → private ≤ to → Agree private sorts numbers pairs u → Stay private sorts to t u → u.values d ≡ Number word
+        → SimN to t (serving service word (beside private sorts numbers pairs log u)) (pass symbols (s.Service service (Some d) (Some to) ∷ []) Next u)
+    serves service word d to t numbers pairs log u above a st at =
+        let S : Reached → Type 0 = λ r. SimN to t (serving service word (beside private sorts numbers pairs log u)) (and_then r (pass symbols [])) in
+        subst S (sym (read_number _ at)) (finish_served to t numbers pairs log (served_in_c service word u.world) u above a st)
 
     -- the bounds and the address of a new block
     pub finish_block : (d l size x : ℕ) (t : T) (numbers : ℕ → ℕ) (pairs : ℕ → Rooted) (log : Log) (u : T) → private ≤ d → Agree private sorts numbers pairs u → Stay private sorts d t u → u.values d ≡ Number size → u.values (d + 2) ≡ Number x
@@ -382,24 +385,24 @@ module _ (private : ℕ) (sorts : ℕ → Bool) where
     -- ---- addresses that move
 
     pub pm_step : (minus : Bool) (size x i to a b : ℕ) (u : T) → u.values a ≡ Number x → u.values b ≡ Number (i * size % addresses) → does symbols (s.Arith to (plus_or_minus minus) U64 a b) u ≡ On Next (with_number to (stepped minus size x i) u)
-    pm_step true size x i to a b u at_a at_b = arith_step Minus U64 x (i * size % addresses) to a b (stepped true size x i) u at_a at_b (less-word size x i)
-    pm_step false size x i to a b u at_a at_b = arith_step Plus U64 x (i * size % addresses) to a b (stepped false size x i) u at_a at_b (more-word size x i)
+    pm_step true size x i to a b u at_a at_b = arith_step Sub U64 x (i * size % addresses) to a b (stepped true size x i) u at_a at_b (less-word size x i)
+    pm_step false size x i to a b u at_a at_b = arith_step Add U64 x (i * size % addresses) to a b (stepped false size x i) u at_a at_b (more-word size x i)
 
     pub scale_follows : {A : Type 0} (P : A → T → Type 0) (res : Ended A) (size i a free : ℕ) (rest : List FatStep) (u : T) → a < free → u.values a ≡ Number i → Sim private sorts P res (pass symbols rest Next (with_number a (i * size % addresses) (with_number free size u)))
-        → Sim private sorts P res (pass symbols (s.Const free size ∷ s.Arith a (operator Times) U64 a free ∷ rest) Next u)
+        → Sim private sorts P res (pass symbols (s.Const free size ∷ s.Arith a Mul U64 a free ∷ rest) Next u)
     scale_follows P res size i a free rest u low at h =
         let one = with_number free size u in
-        on_step private sorts symbols P res (s.Const free size) (s.Arith a (operator Times) U64 a free ∷ rest) u one refl
-        (on_step private sorts symbols P res (s.Arith a (operator Times) U64 a free) rest one (with_number a (i * size % addresses) one)
-        (arith_step Times U64 i size a a free (i * size % addresses) one (under a free (Number size) (Number i) u low at) (here free (Number size) u.values) (times-word i size)) h)
+        on_step private sorts symbols P res (s.Const free size) (s.Arith a Mul U64 a free ∷ rest) u one refl
+        (on_step private sorts symbols P res (s.Arith a Mul U64 a free) rest one (with_number a (i * size % addresses) one)
+        (arith_step Mul U64 i size a a free (i * size % addresses) one (under a free (Number size) (Number i) u low at) (here free (Number size) u.values) (times-word i size)) h)
 
     pub offset_follows : {A : Type 0} (P : A → T → Type 0) (res : Ended A) (n x to a free : ℕ) (rest : List FatStep) (u : T) → a < free → u.values a ≡ Number x → Sim private sorts P res (pass symbols rest Next (with_number to (moved x n) (with_number free n u)))
-        → Sim private sorts P res (pass symbols (s.Const free n ∷ s.Arith to plus U64 a free ∷ rest) Next u)
+        → Sim private sorts P res (pass symbols (s.Const free n ∷ s.Arith to Add U64 a free ∷ rest) Next u)
     offset_follows P res n x to a free rest u low at h =
         let one = with_number free n u in
-        on_step private sorts symbols P res (s.Const free n) (s.Arith to plus U64 a free ∷ rest) u one refl
-        (on_step private sorts symbols P res (s.Arith to plus U64 a free) rest one (with_number to (moved x n) one)
-        (arith_step Plus U64 x n to a free (moved x n) one (under a free (Number n) (Number x) u low at) (here free (Number n) u.values) (plus-word x n)) h)
+        on_step private sorts symbols P res (s.Const free n) (s.Arith to Add U64 a free ∷ rest) u one refl
+        (on_step private sorts symbols P res (s.Arith to Add U64 a free) rest one (with_number to (moved x n) one)
+        (arith_step Add U64 x n to a free (moved x n) one (under a free (Number n) (Number x) u low at) (here free (Number n) u.values) (plus-word x n)) h)
 
     -- the number was written last, and the bounds stand already
     pub front_in : (d : ℕ) (t : T) (numbers : ℕ → ℕ) (pairs : ℕ → Rooted) (log : Log) (u : T) (p : Pointer) → private ≤ d → Agree private sorts numbers pairs u → Stay private sorts d t u → u.values (d + 1) ≡ Pair p.rooted.bounds
@@ -475,7 +478,7 @@ module _ (private : ℕ) (sorts : ℕ → Bool) where
 
     -- the same where the index was evaluated first
     pub finish_element_after : (size d : ℕ) (p : Pointer) (i : ℕ) (t : T) (numbers : ℕ → ℕ) (pairs : ℕ → Rooted) (log : Log) (u : T) → private ≤ d → Agree private sorts numbers pairs u → Stay private sorts d t u → u.values d ≡ Number i → u.values (d + 2) ≡ Number p.address → u.values (d + 2 + 1) ≡ Pair p.rooted.bounds
-        → SimP d t (Done (step false size p i) (beside private sorts numbers pairs log u)) (pass symbols (scaled size d (d + 4) ++ (s.Arith d plus U64 (d + 2) d ∷ s.Copy (d + 1) (d + 2 + 1) ∷ [])) Next u)
+        → SimP d t (Done (step false size p i) (beside private sorts numbers pairs log u)) (pass symbols (scaled size d (d + 4) ++ (s.Arith d Add U64 (d + 2) d ∷ s.Copy (d + 1) (d + 2 + 1) ∷ [])) Next u)
     finish_element_after size d p i t numbers pairs log u above a st at_i at_p at_b =
         let q = step false size p i in
         let b = p.rooted.bounds in
@@ -486,8 +489,8 @@ module _ (private : ℕ) (sorts : ℕ → Bool) where
         let e4 : private ≤ d + 4 = omega (arith, above) in
         let p2 : u2.values (d + 2) ≡ Number p.address = over (d + 2) d (Number k) (Number p.address) u1 (omega arith) (under (d + 2) (d + 4) (Number size) (Number p.address) u (omega arith) at_p) in
         let b3 : u3.values (d + 2 + 1) ≡ Pair b = over (d + 2 + 1) d (Number q.address) (Pair b) u2 (omega arith) (over (d + 2 + 1) d (Number k) (Pair b) u1 (omega arith) (under (d + 2 + 1) (d + 4) (Number size) (Pair b) u (omega arith) at_b)) in
-        scale_follows (PointerIn private sorts d t) (Done q (beside private sorts numbers pairs log u)) size i d (d + 4) (s.Arith d plus U64 (d + 2) d ∷ s.Copy (d + 1) (d + 2 + 1) ∷ []) u (omega arith) at_i
-        (on_step private sorts symbols (PointerIn private sorts d t) (Done q (beside private sorts numbers pairs log u)) (s.Arith d plus U64 (d + 2) d) (s.Copy (d + 1) (d + 2 + 1) ∷ []) u2 u3 (pm_step false size p.address i d (d + 2) d u2 p2 (here d (Number k) u1.values))
+        scale_follows (PointerIn private sorts d t) (Done q (beside private sorts numbers pairs log u)) size i d (d + 4) (s.Arith d Add U64 (d + 2) d ∷ s.Copy (d + 1) (d + 2 + 1) ∷ []) u (omega arith) at_i
+        (on_step private sorts symbols (PointerIn private sorts d t) (Done q (beside private sorts numbers pairs log u)) (s.Arith d Add U64 (d + 2) d) (s.Copy (d + 1) (d + 2 + 1) ∷ []) u2 u3 (pm_step false size p.address i d (d + 2) d u2 p2 (here d (Number k) u1.values))
         (finish_pair d t numbers pairs log (s.Copy (d + 1) (d + 2 + 1)) u3 q u.world above
         (agree_on private sorts numbers pairs d (Number q.address) u2 above (agree_on private sorts numbers pairs d (Number k) u1 above (agree_on private sorts numbers pairs (d + 4) (Number size) u e4 a)))
         (stay_on private sorts d t u2 d (Number q.address) (omega arith) (stay_on private sorts d t u1 d (Number k) (omega arith) (stay_on private sorts d t u (d + 4) (Number size) (omega arith) st)))
@@ -497,14 +500,14 @@ module _ (private : ℕ) (sorts : ℕ → Bool) where
     pub update_at : (kind : IntKind) (place : PlaceOf) (op : Arithmetic) (common : IntKind) (old : Bool) (d : ℕ) (q : Pointer) (n : ℕ) (t : T) (numbers : ℕ → ℕ) (pairs : ℕ → Rooted) (log : Log) (w : T) → private ≤ d → Agree private sorts numbers pairs w → Stay private sorts d t w
         → w.values d ≡ Number q.address → w.values (d + 1) ≡ Pair q.rooted.bounds → w.values (d + 2) ≡ Number n
         → SimN d t ((load kind place q >>= (λ before. operate op common before n >>= (λ after. store kind place q (extended kind after) >> pure (either old before (extended kind after))))) (beside private sorts numbers pairs log w))
-        (pass symbols (s.Judge d (size_of kind) (d + 1) false place ∷ s.Load d (d + 4) kind ∷ s.Arith (d + 2) (operator op) common (d + 4) (d + 2) ∷ s.Extend (d + 2) (d + 2) kind ∷ s.Judge d (size_of kind) (d + 1) true place ∷ s.Store d (d + 2) kind ∷ s.Copy d (before_or_after old (d + 4) (d + 2)) ∷ []) Next w)
+        (pass symbols (s.Judge d (size_of kind) (d + 1) false place ∷ s.Load d (d + 4) kind ∷ s.Arith (d + 2) op common (d + 4) (d + 2) ∷ s.Extend (d + 2) (d + 2) kind ∷ s.Judge d (size_of kind) (d + 1) true place ∷ s.Store d (d + 2) kind ∷ s.Copy d (before_or_after old (d + 4) (d + 2)) ∷ []) Next w)
     update_at kind place op common old d q n t numbers pairs log w above a st at_d at_b at_n =
         let last = s.Copy d (before_or_after old (d + 4) (d + 2)) ∷ [] in
         let stores = s.Judge d (size_of kind) (d + 1) true place ∷ s.Store d (d + 2) kind ∷ last in
         let extends = s.Extend (d + 2) (d + 2) kind ∷ stores in
         let e1 : private ≤ d + 1 = omega (arith, above) in
         let e2 : private ≤ d + 2 = omega (arith, above) in
-        and_on private sorts symbols (NumberIn private sorts (d + 4) w) (NumberIn private sorts d t) _ (s.Judge d (size_of kind) (d + 1) false place ∷ s.Load d (d + 4) kind ∷ []) (s.Arith (d + 2) (operator op) common (d + 4) (d + 2) ∷ extends) w
+        and_on private sorts symbols (NumberIn private sorts (d + 4) w) (NumberIn private sorts d t) _ (s.Judge d (size_of kind) (d + 1) false place ∷ s.Load d (d + 4) kind ∷ []) (s.Arith (d + 2) op common (d + 4) (d + 2) ∷ extends) w
         (λ before. operate op common before n >>= (λ after. store kind place q (extended kind after) >> pure (either old before (extended kind after))))
         (loads_number kind place q d (d + 1) (d + 4) numbers pairs log w (omega (arith, above)) at_d at_b a)
         (λ before numbers pairs log y a got.

@@ -1,5 +1,7 @@
 -- One induction over the whole meaning: all bounds keep their roots.
 use Rattle.std.proofs.Common.{ℕ, zero, suc, ◌+◌, ◌≡◌, refl, sym, ◌∙◌, subst, cond, ◌==◌, List, [], ◌∷◌, Option, Some, None, Bool, true, false}
+use Rattle.mx_base.specs.declared.services.CService.{CService}
+use Rattle.mx_base.specs.declared.services.CService.TheVariants as in_c
 use Rattle.mx_base.specs.declared.limits.Bounds.{Bounds as BoundsPair}
 use Rattle.mx_base.specs.declared.numbers.IntKind.{IntKind}
 use Rattle.mx_base.specs.declared.places.Place.{Place}
@@ -213,8 +215,8 @@ module _ (start : List BoundsPair) (variables : List Framed_variable) (sorts : �
   good-served Overflows s i = (i.rooted, grows-same s.log)
   good-served (Refused why) s i = (i.rooted, grows-same s.log)
 
-  good-serving : (number word : ℕ) → Good Numbers (serving number word)
-  good-serving number word s i = good-served (served_in_c number word s.world) s i
+  good-serving : (service : CService) (word : ℕ) → Good Numbers (serving service word)
+  good-serving service word s i = good-served (served_in_c service word s.world) s i
 
   good-block : (size a : ℕ) → Good Points (block size a)
   good-block size zero s i = good-full NullBlock 0 s i
@@ -270,8 +272,8 @@ module _ (start : List BoundsPair) (variables : List Framed_variable) (sorts : �
       good-number (Or a b) f s i = after Numbers Numbers s (number names a s) _ (good-number a f.0 s i) (λ x z i g q. good-choose Numbers x _ _ z (done Numbers 1 z i tt) (after Numbers Numbers z (number names b z) _ (good-number b f.1 z i) (λ y z i g q. (i, grows-same z.log, tt))))
       good-number (Choose test a b) f s i = after Numbers Numbers s (number names test s) _ (good-number test f.0 s i) (λ x z i g q. good-choose Numbers x (number names a) (number names b) z (good-number a f.1 z i) (good-number b f.2 z i))
       good-number (Call symbol args) f s i = after AllHaveRoots Numbers s (arguments names args s) _ (good-arguments args f s i) (λ vs z i g q. after PassedHasRoot Numbers z (calling names symbol vs z) _ (good-calling names calls symbol vs z i q) (λ v y i g q. (i, grows-same y.log, tt)))
-      good-number (Serve n e) f s i = after Numbers Numbers s (number names e s) _ (good-number e f s i) (λ word z i g q. good-serving n word z i)
-      good-number (Ask n) f s i = good-serving n 0 s i
+      good-number (Serve service e) f s i = after Numbers Numbers s (number names e s) _ (good-number e f s i) (λ word z i g q. good-serving service word z i)
+      good-number (Ask service) f s i = good-serving service 0 s i
 
       pub good-pointer : (e : PointerExpr) → NamesPtr S F P e → Good Points (pointer names e)
       good-pointer Null f s i = good-full NullConstant 0 s i
@@ -296,7 +298,7 @@ module _ (start : List BoundsPair) (variables : List Framed_variable) (sorts : �
           (λ u v i g t. (i, grows-same v.log, (one-of v.log old before before.address (step minus size before k).address (has-later x.log v.log g before.rooted r)))))))
       good-pointer (ChoosePtr test a b) f s i = after Numbers Points s (number names test s) _ (good-number test f.0 s i) (λ x z i g q. good-choose Points x (pointer names a) (pointer names b) z (good-pointer a f.1 z i) (good-pointer b f.2 z i))
       good-pointer (CallPtr symbol args) f s i = after AllHaveRoots Points s (arguments names args s) _ (good-arguments args f s i) (λ vs z i g q. after PassedHasRoot Points z (calling names symbol vs z) _ (good-calling names calls symbol vs z i q) (λ v y i g q. good-passed v y i q))
-      good-pointer (Alloc e) f s i = after Numbers Points s (number names e s) _ (good-number e f s i) (λ n z i g q. after Numbers Points z (serving 3 n z) _ (good-serving 3 n z i) (λ a y i g q. good-block n a y i))
+      good-pointer (Alloc e) f s i = after Numbers Points s (number names e s) _ (good-number e f s i) (λ n z i g q. after Numbers Points z (serving in_c.Alloc n z) _ (good-serving in_c.Alloc n z i) (λ a y i g q. good-block n a y i))
       good-pointer (SetBounds e n) f s i = after Points Points s (pointer names e s) _ (good-pointer e f.0 s i) (λ p z i g q. after Numbers Points z (number names n z) _ (good-number n f.1 z i) (λ k y i g r. good-making p.address (bounds_at p.address k) y i))
       good-pointer (NarrowBounds e d n) f s i = after Points Points s (pointer names e s) _ (good-pointer e f.0 s i) (λ p z i g q. after Points Points z (pointer names d z) _ (good-pointer d f.1 z i)
           (λ r y i g qr. after Numbers Points y (number names n y) _ (good-number n f.2 y i) (λ k x i g t. (i, grows-same x.log, (narrower x.log r.rooted.root r.rooted.bounds _ (met-lies r.rooted.bounds _) (has-later y.log x.log g r.rooted qr))))))

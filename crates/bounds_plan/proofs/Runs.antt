@@ -2,6 +2,8 @@
 use Rattle.std.proofs.Common.{is_some, ℕ, zero, suc, ◌+◌, ◌-◌, ◌≡◌, ◌≤◌, refl, ap, ◌∙◌, cond, nat_lt, List, [], ◌∷◌, Option, Some, None, Bool, true, false, arith}
 use Rattle.std.specs.Option.{option_map}
 use Rattle.std.specs.List.{list_any}
+use Rattle.mx_base.specs.declared.services.CService.{CService}
+use Rattle.mx_base.specs.declared.services.CService.TheVariants as in_c
 use Rattle.mx_base.specs.declared.limits.Bounds.{Bounds as BoundsPair}
 use Rattle.mx_base.specs.declared.numbers.IntKind.{IntKind}
 use Rattle.mx_base.specs.declared.places.Place.{Place}
@@ -37,7 +39,7 @@ pub record Keeps (R : Relation) : Type 0 where
   pub join : (w : World) (l : Log) (u : World) (m : Log) (v : World) (n : Log) → R w l u m → R u m v n → R w l v n
   pub logged : (w : World) (l m : Log) → m.trace ≡ l.trace → R w l w m
   pub asked : (w : World) (l : Log) (s : BoundsStore) → ((g : ℕ) → s.kept g ≡ w.store.kept g) → R w l (with_store w s) l
-  pub served : (w : World) (l : Log) (number word answer : ℕ) (g : Guest) → served_in_c number word w ≡ Answers answer g → R w l (record w { guest = g }) l
+  pub served : (w : World) (l : Log) (service : CService) (word answer : ℕ) (g : Guest) → served_in_c service word w ≡ Answers answer g → R w l (record w { guest = g }) l
   pub turned : (w : World) (l : Log) (n : ℕ) → w.turns ≡ suc n → R w l (with_turns n w) l
   pub framed : (w : World) (l : Log) (sp : ℕ) → R w l (with_data_sp sp w) l
   pub read : (w : World) (l : Log) (n : ℕ) (p : Pointer) → refusal false n p.address ≡ None → is_outside p.address n p.rooted.bounds ≡ false → R w l (read_noted n w p.address) (access false n p l)
@@ -166,14 +168,14 @@ module _ (R : Relation) (k : Keeps R) where
   kept-pointer_passed (OfNumber n) = λ s. k.logged s.world s.log _ refl
   kept-pointer_passed (OfPointer p) = λ s. k.same s.world s.log
 
-  kept-served : (number word : ℕ) (s : State) (a : Served Refusal) → served_in_c number word s.world ≡ a → Kept s (served_with a s)
-  kept-served number word s (Answers x g) e = k.served s.world s.log number word x g e
-  kept-served number word s (Exits code) e = k.same s.world s.log
-  kept-served number word s Overflows e = k.same s.world s.log
-  kept-served number word s (Refused why) e = k.same s.world s.log
+  kept-served : (service : CService) (word : ℕ) (s : State) (a : Served Refusal) → served_in_c service word s.world ≡ a → Kept s (served_with a s)
+  kept-served service word s (Answers x g) e = k.served s.world s.log service word x g e
+  kept-served service word s (Exits code) e = k.same s.world s.log
+  kept-served service word s Overflows e = k.same s.world s.log
+  kept-served service word s (Refused why) e = k.same s.world s.log
 
-  kept-serving : (number word : ℕ) → KeptM (serving number word)
-  kept-serving number word = λ s. kept-served number word s (served_in_c number word s.world) refl
+  kept-serving : (service : CService) (word : ℕ) → KeptM (serving service word)
+  kept-serving service word = λ s. kept-served service word s (served_in_c service word s.world) refl
 
   kept-block : (size a : ℕ) → KeptM (block size a)
   kept-block size zero = λ s. k.logged s.world s.log _ refl
@@ -210,8 +212,8 @@ module _ (R : Relation) (k : Keeps R) where
     kept-number names h (Or a b) = seq (number names a) _ (kept-number names h a) (λ x. kept-choose x _ _ (λ s. k.same s.world s.log) (seq (number names b) _ (kept-number names h b) (λ y s. k.same s.world s.log)))
     kept-number names h (Choose test a b) = seq (number names test) _ (kept-number names h test) (λ x. kept-choose x _ _ (kept-number names h a) (kept-number names h b))
     kept-number names h (Call symbol args) = seq (arguments names args) _ (kept-arguments names h args) (λ vs. seq (calling names symbol vs) _ (kept-calling names h symbol vs) (λ v s. k.same s.world s.log))
-    kept-number names h (Serve n e) = seq (number names e) _ (kept-number names h e) (λ word. kept-serving n word)
-    kept-number names h (Ask n) = kept-serving n 0
+    kept-number names h (Serve service e) = seq (number names e) _ (kept-number names h e) (λ word. kept-serving service word)
+    kept-number names h (Ask service) = kept-serving service 0
 
     pub kept-pointer : (names : Names) → KeptF names.call → (e : PointerExpr) → KeptM (pointer names e)
     kept-pointer names h Null = λ s. k.logged s.world s.log _ refl
@@ -230,7 +232,7 @@ module _ (R : Relation) (k : Keeps R) where
     kept-pointer names h (AdvanceAt place e minus size i old) = seq (pointer names e) _ (kept-pointer names h e) (λ p. seq (number names i) _ (kept-number names h i) (λ n. seq (load_ptr place p) _ (kept-load_ptr place p) (λ before. seq_ (store_ptr place p _) _ (kept-store_ptr place p _) (λ s. k.same s.world s.log))))
     kept-pointer names h (ChoosePtr test a b) = seq (number names test) _ (kept-number names h test) (λ x. kept-choose x _ _ (kept-pointer names h a) (kept-pointer names h b))
     kept-pointer names h (CallPtr symbol args) = seq (arguments names args) _ (kept-arguments names h args) (λ vs. seq (calling names symbol vs) _ (kept-calling names h symbol vs) (λ v. kept-pointer_passed v))
-    kept-pointer names h (Alloc e) = seq (number names e) _ (kept-number names h e) (λ n. seq (serving 3 n) _ (kept-serving 3 n) (λ a. kept-block n a))
+    kept-pointer names h (Alloc e) = seq (number names e) _ (kept-number names h e) (λ n. seq (serving in_c.Alloc n) _ (kept-serving in_c.Alloc n) (λ a. kept-block n a))
     kept-pointer names h (SetBounds e n) = seq (pointer names e) _ (kept-pointer names h e) (λ q. seq (number names n) _ (kept-number names h n) (λ size s. k.logged s.world s.log _ refl))
     kept-pointer names h (NarrowBounds e f n) = seq (pointer names e) _ (kept-pointer names h e) (λ p. seq (pointer names f) _ (kept-pointer names h f) (λ q. seq (number names n) _ (kept-number names h n) (λ size s. k.same s.world s.log)))
     kept-pointer names h (CopyBounds e f) = seq (pointer names e) _ (kept-pointer names h e) (λ q. seq (pointer names f) _ (kept-pointer names h f) (λ r s. k.same s.world s.log))

@@ -67,8 +67,8 @@ module _ (private : ℕ) (sorts : ℕ → Bool) (takes : ℕ → ℕ) (N B : ℕ
     some (Or a b) = let h = some a in omega (arith, h)
     some (Choose test a b) = let h = some test in omega (arith, h)
     some (Call symbol args) = omega arith
-    some (Serve n e) = some e
-    some (Ask n) = omega arith
+    some (Serve service e) = some e
+    some (Ask service) = omega arith
 
     some_ptr : (e : PointerExpr) → 1 ≤ pairs_ptr e
     some_ptr Null = omega arith

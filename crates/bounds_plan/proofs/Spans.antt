@@ -70,7 +70,7 @@ module _ (N B Q : ℕ → Type 0) (n : (v : ℕ) → N v → Q v) (b : (v : ℕ)
   all_named (s.Jump k) h = none
   all_named (s.JumpIf from k) h = one from (n from h)
   all_named (s.Call symbol args to bounds) h = All-append Q (in_arguments args) (maybe to ++ maybe bounds) (arguments args h.0) (All-append Q (maybe to) (maybe bounds) (some_number to h.1) (some_bounds bounds h.2))
-  all_named (s.Service number arg to) h = All-append Q (maybe arg) (maybe to) (some_number arg h.0) (some_number to h.1)
+  all_named (s.Service service arg to) h = All-append Q (maybe arg) (maybe to) (some_number arg h.0) (some_number to h.1)
   all_named (s.Give from bounds) h = All-append Q (maybe from ++ maybe bounds) [] (All-append Q (maybe from) (maybe bounds) (some_number from h.0) (some_bounds bounds h.1)) none
 
   step_at : (steps : List FatStep) (i : ℕ) (step : FatStep) → StandsAt steps i step → AllNameRight N B steps → All Q (named step)

@@ -5,7 +5,10 @@ use Rattle.std.specs.Prelude.{Option, None, Some, slice_get}
 use Rattle.mx_base.specs.declared.numbers.IntKind.{IntKind}
 use Rattle.mx_base.specs.declared.numbers.IntKind.TheVariants.{I32, I64, U64}
 use Rattle.mx_base.specs.declared.places.Place.{Place}
-use Rattle.mx_base.specs.Operators.{Arithmetic, Times, Over, Rest, Plus, Minus, Left, Right, BitAnd, BitXor, BitOr, Comparison, arithmetic_at, comparison_at}
+use Rattle.mx_base.specs.declared.operators.Arithmetic.{Arithmetic}
+use Rattle.mx_base.specs.declared.operators.Arithmetic.TheVariants.{Mul, Div, Rem, Add, Sub, Shl, Shr, BitAnd, BitXor, BitOr}
+use Rattle.mx_base.specs.declared.operators.Comparison.{Comparison}
+use Rattle.mx_base.specs.Operators.{arithmetic_at, comparison_at}
 use Rattle.narrowing.specs.declared.member.Rule.{Rule}
 use Rattle.narrowing.specs.declared.member.Rule.TheVariants.{Keep, Meet}
 use Rattle.c_tree.specs.declared.tree.ExprKind.{ExprKind-F}
@@ -59,13 +62,13 @@ converted_short : (n : ℕ) (from to : IntKind) (e : NumberExpr) → pairs e ≤
 converted_short n from to e h = kept_short n (keeps from to) to e h
 
 right_short : (n : ℕ) (op : Arithmetic) (from to : IntKind) (e : NumberExpr) → pairs e ≤ n → pairs (right_operand op from to e) ≤ n
-right_short n Times from to e h = converted_short n from to e h
-right_short n Over from to e h = converted_short n from to e h
-right_short n Rest from to e h = converted_short n from to e h
-right_short n Plus from to e h = converted_short n from to e h
-right_short n Minus from to e h = converted_short n from to e h
-right_short n Left from to e h = h
-right_short n Right from to e h = h
+right_short n Mul from to e h = converted_short n from to e h
+right_short n Div from to e h = converted_short n from to e h
+right_short n Rem from to e h = converted_short n from to e h
+right_short n Add from to e h = converted_short n from to e h
+right_short n Sub from to e h = converted_short n from to e h
+right_short n Shl from to e h = h
+right_short n Shr from to e h = h
 right_short n BitAnd from to e h = converted_short n from to e h
 right_short n BitXor from to e h = converted_short n from to e h
 right_short n BitOr from to e h = converted_short n from to e h
@@ -240,7 +243,7 @@ assign_short v u (Some op) around a b place after h k = let n : ℕ = max v (u +
 
 stepped_short : (w : ℕ) (around : Around) (up before : Bool) (a : Found) (place : Place) (after : Reached) → Short w a → Short w (stepped_by around up before a place after)
 stepped_short w around up before a place after h = no_place_short w a.type _ place after
-    (omega (arith, changed_as_short (w + 6) (kind_of a.type) (sort_of a.type) a.place a.lvalue (if up then Plus else Minus) I32 (step_in around.structs a.type) (Word 1) (not before) (omega arith) (omega (arith, h.lvalue)) (omega arith)))
+    (omega (arith, changed_as_short (w + 6) (kind_of a.type) (sort_of a.type) a.place a.lvalue (if up then Add else Sub) I32 (step_in around.structs a.type) (Word 1) (not before) (omega arith) (omega (arith, h.lvalue)) (omega arith)))
 
 -- ---- operators on two operands
 

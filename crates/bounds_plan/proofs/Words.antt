@@ -5,34 +5,12 @@ use Rattle.std.proofs.lemmas.Bool.Decides.{nat_tests}
 use Rattle.std.proofs.lemmas.Nat.{mul-mod}
 use Rattle.mx_base.specs.declared.numbers.IntKind.TheVariants.{U64}
 use Rattle.mx_base.specs.Numbers.{residue, number_of, value_of, wrapped, word_of, extended}
-use Rattle.mx_base.specs.Operators.{Arithmetic, Times, Over, Rest, Plus, Minus, Left, Right, BitAnd, BitXor, BitOr, Comparison, Below, AtMost, Above, AtLeast, Equal, Differs, arithmetic, word_arithmetic, arithmetic_at, comparison_at}
+use Rattle.mx_base.specs.declared.operators.Arithmetic.TheVariants.{Mul, Add, Sub}
+use Rattle.mx_base.specs.Operators.{arithmetic, word_arithmetic}
 use Rattle.mx_base.specs.Bounds.{addresses, moved}
 use Rattle.bounds_plan.specs.Expressions.{stepped}
-use Rattle.bounds_plan.specs.Code.{operator, comparison}
 
-pub operator-back : (op : Arithmetic) → arithmetic_at (operator op) ≡ Some op
-unfolding arithmetic_at
-operator-back Times = refl
-operator-back Over = refl
-operator-back Rest = refl
-operator-back Plus = refl
-operator-back Minus = refl
-operator-back Left = refl
-operator-back Right = refl
-operator-back BitAnd = refl
-operator-back BitXor = refl
-operator-back BitOr = refl
-
-pub comparison-back : (op : Comparison) → comparison_at (comparison op) ≡ Some op
-unfolding comparison_at
-comparison-back Below = refl
-comparison-back AtMost = refl
-comparison-back Above = refl
-comparison-back AtLeast = refl
-comparison-back Equal = refl
-comparison-back Differs = refl
-
-pub plus-word : (a b : ℕ) → word_arithmetic Plus U64 a b ≡ Some (moved a b)
+pub plus-word : (a b : ℕ) → word_arithmetic Add U64 a b ≡ Some (moved a b)
 unfolding word_arithmetic arithmetic value_of number_of wrapped word_of residue moved
 plus-word a b = ap (λ n. Some n) (omega arith)
 
@@ -40,7 +18,7 @@ pub word-word : (a : ℕ) → extended U64 a ≡ moved a 0
 unfolding extended value_of number_of word_of residue moved
 word-word a = omega arith
 
-pub times-word : (a b : ℕ) → word_arithmetic Times U64 a b ≡ Some (a * b % addresses)
+pub times-word : (a b : ℕ) → word_arithmetic Mul U64 a b ≡ Some (a * b % addresses)
 unfolding word_arithmetic arithmetic value_of number_of wrapped word_of residue
 times-word a b = ap (λ n. Some (n % addresses)) (sym (mul-mod a b addresses)) ∙ ap (λ n. Some n) (omega arith)
 
@@ -54,18 +32,18 @@ less a (suc b) = by_cases (nat_lt a (suc b)) refl
     by_cases false e = let high : suc b ≤ a = grind (arith, nat_tests, e) in omega (arith, high)
 
 -- the product is generic in these two, so that it stays linear
-minus-word : (a p : ℕ) → word_arithmetic Minus U64 a (p % addresses) ≡ Some ((a + (addresses - p % addresses)) % addresses)
+minus-word : (a p : ℕ) → word_arithmetic Sub U64 a (p % addresses) ≡ Some ((a + (addresses - p % addresses)) % addresses)
 unfolding word_arithmetic arithmetic value_of number_of wrapped word_of residue
 minus-word a p = ap (λ n. Some (n % addresses)) (less (a % addresses) (p % addresses % addresses)) ∙ ap (λ n. Some n) (omega arith)
 
-added-word : (a p : ℕ) → word_arithmetic Plus U64 a (p % addresses) ≡ Some ((a + p) % addresses)
+added-word : (a p : ℕ) → word_arithmetic Add U64 a (p % addresses) ≡ Some ((a + p) % addresses)
 unfolding word_arithmetic arithmetic value_of number_of wrapped word_of residue
 added-word a p = ap (λ n. Some n) (omega arith)
 
-pub less-word : (size a i : ℕ) → word_arithmetic Minus U64 a (i * size % addresses) ≡ Some (stepped true size a i)
+pub less-word : (size a i : ℕ) → word_arithmetic Sub U64 a (i * size % addresses) ≡ Some (stepped true size a i)
 unfolding stepped
 less-word size a i = minus-word a (i * size)
 
-pub more-word : (size a i : ℕ) → word_arithmetic Plus U64 a (i * size % addresses) ≡ Some (stepped false size a i)
+pub more-word : (size a i : ℕ) → word_arithmetic Add U64 a (i * size % addresses) ≡ Some (stepped false size a i)
 unfolding stepped
 more-word size a i = added-word a (i * size)

@@ -1,10 +1,12 @@
 -- The fat steps of a core tree. The value of an expression goes into the temporary d, and the bounds of a pointer into d + 1; temporaries
 -- from d on are used, in pairs, so that each is a number or bounds throughout a function. Labels are used from l on.
 use Rattle.std.specs.Prelude.{ℕ, zero, suc, ◌+◌, ◌*◌, Bool, true, false, if◌then◌else◌, Option, None, Some, List, [], ◌∷◌, ◌++◌, length}
+use Rattle.mx_base.specs.declared.services.CService.TheVariants as in_c
 use Rattle.mx_base.specs.declared.numbers.IntKind.{IntKind}
 use Rattle.mx_base.specs.declared.numbers.IntKind.TheVariants.{U64}
 use Rattle.mx_base.specs.Numbers.{size_of}
-use Rattle.mx_base.specs.Operators.{Arithmetic, Times, Over, Rest, Plus, Minus, Left, Right, BitAnd, BitXor, BitOr, Comparison, Below, AtMost, Above, AtLeast, Equal, Differs}
+use Rattle.mx_base.specs.declared.operators.Arithmetic.{Arithmetic}
+use Rattle.mx_base.specs.declared.operators.Arithmetic.TheVariants.{Mul, Add, Sub}
 use Rattle.narrowing.specs.declared.member.Rule.{Rule}
 use Rattle.narrowing.specs.declared.member.Rule.TheVariants.{Keep, Meet as MeetRule}
 use Rattle.fat_ir.specs.declared.program.FatFun.{FatFun}
@@ -14,33 +16,8 @@ use Rattle.fat_ir.specs.Functions.{Parameter as FatParameter}
 use Rattle.bounds_plan.specs.Core.{NumberExpr, Word, Variable, Assign, Operate, Compare, Convert, AsNumber, Load, Store, Update, UpdateAt, And, Or, Choose, Call, Serve, Ask, PointerExpr, Null, FromInteger, Function, Object, InFrame, VariablePtr, AssignPtr, Member, Element, ElementAfter, LoadPtr, StorePtr, Advance, AdvanceAt, ChoosePtr, CallPtr, Alloc, SetBounds, NarrowBounds, CopyBounds, InitBounds, BoundOf, Arguments, NoMore, WithNumber, WithPointer, Scalar, Effect, Nothing, OfNumber, OfPointer, CopyStruct, Statement, Skip, Do, Then, If, While, DoWhile, For, Break, Continue, Return, ReturnNumber, ReturnPtr}
 use Rattle.bounds_plan.specs.Functions.{Parameter, Private, Framed, FunctionOfC}
 
--- ---- the place of an operator among the operators
-
-abbrev pub operator : Arithmetic → ℕ
-operator Times = 0
-operator Over = 1
-operator Rest = 2
-operator Plus = 3
-operator Minus = 4
-operator Left = 5
-operator Right = 6
-operator BitAnd = 13
-operator BitXor = 14
-operator BitOr = 15
-
-abbrev pub comparison : Comparison → ℕ
-comparison Below = 7
-comparison AtMost = 8
-comparison Above = 9
-comparison AtLeast = 10
-comparison Equal = 11
-comparison Differs = 12
-
-abbrev pub plus : ℕ
-plus = operator Plus
-
-abbrev pub plus_or_minus : (minus : Bool) → ℕ
-plus_or_minus minus = if minus then operator Minus else plus
+abbrev pub plus_or_minus : (minus : Bool) → Arithmetic
+plus_or_minus minus = if minus then Sub else Add
 
 -- ---- how many labels a tree needs
 
@@ -61,8 +38,8 @@ abbrev mutual
   labels (Or a b) = 2 + labels a + labels b
   labels (Choose test a b) = 2 + labels test + labels a + labels b
   labels (Call symbol args) = labels_all args
-  labels (Serve n e) = labels e
-  labels (Ask n) = 0
+  labels (Serve service e) = labels e
+  labels (Ask service) = 0
 
   pub labels_ptr : PointerExpr → ℕ
   labels_ptr Null = 0
@@ -101,11 +78,11 @@ full b free = s.Const free 0 ∷ s.Make b free free ∷ []
 
 -- the number n more than a into `to`, by a number that is free
 abbrev pub offset_by : (n to a free : ℕ) → List FatStep
-offset_by n to a free = s.Const free n ∷ s.Arith to plus U64 a free ∷ []
+offset_by n to a free = s.Const free n ∷ s.Arith to Add U64 a free ∷ []
 
 -- a number times a size, by a number that is free
 abbrev pub scaled : (size a free : ℕ) → List FatStep
-scaled size a free = s.Const free size ∷ s.Arith a (operator Times) U64 a free ∷ []
+scaled size a free = s.Const free size ∷ s.Arith a Mul U64 a free ∷ []
 
 -- the bounds of the pointer in d under a member's rule
 abbrev pub ruled : Rule → (d : ℕ) → List FatStep
@@ -127,22 +104,22 @@ abbrev mutual
   code (Word n) d l = s.Const d n ∷ []
   code (Variable x) d l = s.Copy d x ∷ []
   code (Assign x e) d l = code e d l ++ (s.Copy x d ∷ [])
-  code (Operate op kind a b) d l = code a d l ++ (code b (d + 2) (l + labels a) ++ (s.Arith d (operator op) kind d (d + 2) ∷ []))
-  code (Compare op kind a b) d l = code a d l ++ (code b (d + 2) (l + labels a) ++ (s.Compare d (comparison op) kind d (d + 2) ∷ []))
+  code (Operate op kind a b) d l = code a d l ++ (code b (d + 2) (l + labels a) ++ (s.Arith d op kind d (d + 2) ∷ []))
+  code (Compare op kind a b) d l = code a d l ++ (code b (d + 2) (l + labels a) ++ (s.Compare d op kind d (d + 2) ∷ []))
   code (Convert kind e) d l = code e d l ++ (s.Extend d d kind ∷ [])
   code (AsNumber p) d l = code_ptr p d l
   code (Load kind place p) d l = code_ptr p d l ++ (s.Judge d (size_of kind) (d + 1) false place ∷ s.Load d d kind ∷ [])
   code (Store kind place p e) d l = code_ptr p d l ++ (code e (d + 2) (l + labels_ptr p) ++ (s.Judge d (size_of kind) (d + 1) true place ∷ s.Store d (d + 2) kind ∷ s.Copy d (d + 2) ∷ []))
-  code (Update x kind op common e old) d l = code e d l ++ (s.Copy (d + 2) x ∷ s.Arith d (operator op) common (d + 2) d ∷ s.Extend d d kind ∷ s.Copy x d ∷ s.Copy d (before_or_after old (d + 2) d) ∷ [])
+  code (Update x kind op common e old) d l = code e d l ++ (s.Copy (d + 2) x ∷ s.Arith d op common (d + 2) d ∷ s.Extend d d kind ∷ s.Copy x d ∷ s.Copy d (before_or_after old (d + 2) d) ∷ [])
   code (UpdateAt kind place p op common e old) d l = code_ptr p d l ++ (code e (d + 2) (l + labels_ptr p) ++ (
-      s.Judge d (size_of kind) (d + 1) false place ∷ s.Load d (d + 4) kind ∷ s.Arith (d + 2) (operator op) common (d + 4) (d + 2) ∷ s.Extend (d + 2) (d + 2) kind
+      s.Judge d (size_of kind) (d + 1) false place ∷ s.Load d (d + 4) kind ∷ s.Arith (d + 2) op common (d + 4) (d + 2) ∷ s.Extend (d + 2) (d + 2) kind
       ∷ s.Judge d (size_of kind) (d + 1) true place ∷ s.Store d (d + 2) kind ∷ s.Copy d (before_or_after old (d + 4) (d + 2)) ∷ []))
   code (And a b) d l = code a d (l + 3) ++ (s.JumpIf d l ∷ s.Jump (l + 1) ∷ s.Label l ∷ (code b d (l + 3 + labels a) ++ (s.JumpIf d (l + 2) ∷ s.Jump (l + 1) ∷ s.Label (l + 2) ∷ s.Const d 1 ∷ s.Label (l + 1) ∷ [])))
   code (Or a b) d l = code a d (l + 2) ++ (s.JumpIf d l ∷ (code b d (l + 2 + labels a) ++ (s.JumpIf d l ∷ s.Jump (l + 1) ∷ s.Label l ∷ s.Const d 1 ∷ s.Label (l + 1) ∷ [])))
   code (Choose test a b) d l = code test d (l + 2) ++ (s.JumpIf d l ∷ (code b d (l + 2 + labels test) ++ (s.Jump (l + 1) ∷ s.Label l ∷ (code a d (l + 2 + labels test + labels b) ++ (s.Label (l + 1) ∷ [])))))
   code (Call symbol args) d l = codes args d l ++ (s.Call symbol (arguments_at args d) (Some d) None ∷ [])
-  code (Serve n e) d l = code e d l ++ (s.Service n (Some d) (Some d) ∷ [])
-  code (Ask n) d l = s.Service n None (Some d) ∷ []
+  code (Serve service e) d l = code e d l ++ (s.Service service (Some d) (Some d) ∷ [])
+  code (Ask service) d l = s.Service service None (Some d) ∷ []
 
   pub code_ptr : PointerExpr → (d l : ℕ) → List FatStep
   code_ptr Null d l = s.Const d 0 ∷ s.Make (d + 1) d d ∷ []
@@ -154,7 +131,7 @@ abbrev mutual
   code_ptr (AssignPtr x e) d l = code_ptr e d l ++ (s.Copy x d ∷ s.Copy (x + 1) (d + 1) ∷ [])
   code_ptr (Member offset rule p) d l = code_ptr p d l ++ (ruled rule d ++ offset_by offset d d (d + 2))
   code_ptr (Element minus size p i) d l = code_ptr p d l ++ (code i (d + 2) (l + labels_ptr p) ++ (scaled size (d + 2) (d + 4) ++ (s.Arith d (plus_or_minus minus) U64 d (d + 2) ∷ [])))
-  code_ptr (ElementAfter size i p) d l = code i d l ++ (code_ptr p (d + 2) (l + labels i) ++ (scaled size d (d + 4) ++ (s.Arith d plus U64 (d + 2) d ∷ s.Copy (d + 1) (d + 2 + 1) ∷ [])))
+  code_ptr (ElementAfter size i p) d l = code i d l ++ (code_ptr p (d + 2) (l + labels i) ++ (scaled size d (d + 4) ++ (s.Arith d Add U64 (d + 2) d ∷ s.Copy (d + 1) (d + 2 + 1) ∷ [])))
   code_ptr (LoadPtr place p) d l = code_ptr p d l ++ (s.Judge d 8 (d + 1) false place ∷ s.LoadPtr d d (d + 1) ∷ [])
   code_ptr (StorePtr place p e) d l = code_ptr p d l ++ (code_ptr e (d + 2) (l + labels_ptr p) ++ (s.Judge d 8 (d + 1) true place ∷ s.StorePtr d (d + 2) (d + 2 + 1) ∷ s.Copy d (d + 2) ∷ s.Copy (d + 1) (d + 2 + 1) ∷ []))
   code_ptr (Advance x minus size i old) d l = code i d l ++ (scaled size d (d + 2) ++ (
@@ -164,7 +141,7 @@ abbrev mutual
       ∷ s.Judge d 8 (d + 1) true place ∷ s.StorePtr d (d + 2) (d + 4 + 1) ∷ s.Copy d (before_or_after old (d + 4) (d + 2)) ∷ s.Copy (d + 1) (d + 4 + 1) ∷ [])))
   code_ptr (ChoosePtr test a b) d l = code test d (l + 2) ++ (s.JumpIf d l ∷ (code_ptr b d (l + 2 + labels test) ++ (s.Jump (l + 1) ∷ s.Label l ∷ (code_ptr a d (l + 2 + labels test + labels_ptr b) ++ (s.Label (l + 1) ∷ [])))))
   code_ptr (CallPtr symbol args) d l = codes args d l ++ (s.Call symbol (arguments_at args d) (Some d) (Some (d + 1)) ∷ [])
-  code_ptr (Alloc e) d l = code e d (l + 1) ++ (s.Service 3 (Some d) (Some (d + 2)) ∷ s.JumpIf (d + 2) l ∷ s.Const d 0 ∷ s.Label l ∷ s.Make (d + 1) (d + 2) d ∷ s.Copy d (d + 2) ∷ [])
+  code_ptr (Alloc e) d l = code e d (l + 1) ++ (s.Service in_c.Alloc (Some d) (Some (d + 2)) ∷ s.JumpIf (d + 2) l ∷ s.Const d 0 ∷ s.Label l ∷ s.Make (d + 1) (d + 2) d ∷ s.Copy d (d + 2) ∷ [])
   code_ptr (SetBounds q n) d l = code_ptr q d l ++ (code n (d + 2) (l + labels_ptr q) ++ (s.Make (d + 1) d (d + 2) ∷ []))
   code_ptr (NarrowBounds p q n) d l = code_ptr p d l ++ (code_ptr q (d + 2) (l + labels_ptr p) ++ (code n (d + 4) (l + labels_ptr p + labels_ptr q) ++ (s.Make (d + 1) d (d + 4) ∷ s.Meet (d + 1) (d + 2 + 1) (d + 1) ∷ [])))
   code_ptr (CopyBounds q r) d l = code_ptr q d l ++ (code_ptr r (d + 2) (l + labels_ptr q) ++ (s.Copy (d + 1) (d + 2 + 1) ∷ []))

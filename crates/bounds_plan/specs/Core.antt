@@ -1,9 +1,11 @@
 -- The core tree of C: every conversion, load, address, bound and size is a node of its own, a name is a private variable or a symbol, and
 -- each expression is known to give a number or a pointer.
 use Rattle.std.specs.Prelude.{ℕ, Bool, Option, List}
+use Rattle.mx_base.specs.declared.services.CService.{CService}
 use Rattle.mx_base.specs.declared.numbers.IntKind.{IntKind}
 use Rattle.mx_base.specs.declared.places.Place.{Place}
-use Rattle.mx_base.specs.Operators.{Arithmetic, Comparison}
+use Rattle.mx_base.specs.declared.operators.Arithmetic.{Arithmetic}
+use Rattle.mx_base.specs.declared.operators.Comparison.{Comparison}
 use Rattle.narrowing.specs.declared.member.Rule.{Rule}
 
 -- a private variable is named by its value in the numbering of fat steps: a pointer's number, which its bounds follow. A `place` is where an
@@ -34,8 +36,8 @@ mutual
     Choose : (test a b : NumberExpr) → NumberExpr
     -- a call whose result is a number or nothing, and a service with or without its word
     Call : (symbol : ℕ) → (args : Arguments) → NumberExpr
-    Serve : (number : ℕ) → (e : NumberExpr) → NumberExpr
-    Ask : (number : ℕ) → NumberExpr
+    Serve : (service : CService) → (e : NumberExpr) → NumberExpr
+    Ask : (service : CService) → NumberExpr
 
   -- an expression whose value is a pointer; the address of a place is one
   pub data PointerExpr : Type 0 where

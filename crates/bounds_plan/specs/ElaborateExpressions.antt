@@ -1,9 +1,14 @@
 -- What an expression of the tree is in the core tree.
 use Rattle.std.specs.Prelude.{ℕ, zero, suc, ◌+◌, ◌==◌, ◌&&◌, Bool, true, false, not, if◌then◌else◌, Option, None, Some, List, [], ◌∷◌, length, slice_get, slice_index_or}
+use Rattle.mx_base.specs.declared.services.CService.TheVariants as in_c
 use Rattle.mx_base.specs.declared.numbers.IntKind.{IntKind}
 use Rattle.mx_base.specs.declared.numbers.IntKind.TheVariants.{I32, I64, U64}
 use Rattle.mx_base.specs.declared.places.Place.{Place}
-use Rattle.mx_base.specs.Operators.{Arithmetic, Times, Over, Rest, Plus, Minus, Left, Right, BitAnd, BitXor, BitOr, Comparison, Equal, arithmetic_at, comparison_at}
+use Rattle.mx_base.specs.declared.operators.Arithmetic.{Arithmetic}
+use Rattle.mx_base.specs.declared.operators.Arithmetic.TheVariants.{Mul, Div, Rem, Add, Sub, Shl, Shr, BitAnd, BitXor, BitOr}
+use Rattle.mx_base.specs.declared.operators.Comparison.{Comparison}
+use Rattle.mx_base.specs.declared.operators.Comparison.TheVariants.{Equal}
+use Rattle.mx_base.specs.Operators.{arithmetic_at, comparison_at}
 use Rattle.narrowing.specs.declared.member.Rule.{Rule}
 use Rattle.narrowing.specs.Element.{element_rule}
 use Rattle.c_tree.specs.declared.tree.Base.{Base}
@@ -78,7 +83,7 @@ minus_one = 0xffff_ffff_ffff_ffff
 
 -- the number times -1
 abbrev pub negative : Found → NumberExpr
-negative a = Operate Times (promoted (kind_of a.type)) (promoted_number a) (Word minus_one)
+negative a = Operate Mul (promoted (kind_of a.type)) (promoted_number a) (Word minus_one)
 
 -- every bit turned
 abbrev pub inverse : Found → NumberExpr
@@ -104,7 +109,7 @@ calculated op ka kb a b = Operate op (done_in op ka kb) (converted ka (done_in o
 
 -- the difference of two pointers, in elements of this size
 abbrev pub distance : (size : ℕ) → PointerExpr → PointerExpr → NumberExpr
-distance size p q = Operate Over I64 (Operate Minus I64 (AsNumber p) (AsNumber q)) (Word size)
+distance size p q = Operate Div I64 (Operate Sub I64 (AsNumber p) (AsNumber q)) (Word size)
 
 -- two numbers; a pointer plus or minus a number, a number plus a pointer, and a pointer minus a pointer
 abbrev pub arithmetic : List StructType → Arithmetic → (a_type b_type : CType) → Value → Value → Value
@@ -158,8 +163,8 @@ assignment around a b place after = record (no_place a.type (assigned a b) place
 
 -- the operator of a compound assignment by its place in the list that begins with `=`
 abbrev pub compound_at : ℕ → Arithmetic
-compound_at n = if n == 1 then Plus else if n == 2 then Minus else if n == 3 then Times else if n == 4 then Over else if n == 5 then Rest
-    else if n == 6 then BitAnd else if n == 7 then BitOr else if n == 8 then BitXor else if n == 9 then Left else Right
+compound_at n = if n == 1 then Add else if n == 2 then Sub else if n == 3 then Mul else if n == 4 then Div else if n == 5 then Rem
+    else if n == 6 then BitAnd else if n == 7 then BitOr else if n == 8 then BitXor else if n == 9 then Shl else Shr
 
 -- a place is changed by an operator and a number of this type
 abbrev pub changed : List StructType → Arithmetic → Found → (from : IntKind) → NumberExpr → (old : Bool) → Value
@@ -175,7 +180,7 @@ assign_by (Some op) around a b place after = compound around (compound_at op) a 
 
 -- `++` and `--` add the `int` 1 or take it away; behind their operand they give the value before
 abbrev pub stepped_by : Around → (up before : Bool) → Found → Place → Reached → Found
-stepped_by around up before a place after = no_place a.type (changed around.structs (if up then Plus else Minus) a I32 (Word 1) (not before)) place after
+stepped_by around up before a place after = no_place a.type (changed around.structs (if up then Add else Sub) a I32 (Word 1) (not before)) place after
 
 -- ---- calls
 
@@ -223,12 +228,12 @@ pointer_of_argument n all = wanted_pointer (argument_at n all).value
 
 -- void print(long), void put(int), int get(void), void *alloc(unsigned long), int free(void *), void exit(int)
 abbrev pub served : ℕ → List Found → Value
-served number all = if number == 0 then Numeric (Serve 0 (number_of_argument I64 0 all))
-    else if number == 1 then Numeric (Serve 1 (number_of_argument I32 0 all))
-    else if number == 2 then Numeric (Ask 2)
+served number all = if number == 0 then Numeric (Serve in_c.Print (number_of_argument I64 0 all))
+    else if number == 1 then Numeric (Serve in_c.Put (number_of_argument I32 0 all))
+    else if number == 2 then Numeric (Ask in_c.Get)
     else if number == 3 then Address (Alloc (number_of_argument U64 0 all))
-    else if number == 4 then Numeric (Serve 4 (AsNumber (pointer_of_argument 0 all)))
-    else Numeric (Serve 5 (number_of_argument I32 0 all))
+    else if number == 4 then Numeric (Serve in_c.Free (AsNumber (pointer_of_argument 0 all)))
+    else Numeric (Serve in_c.Exit (number_of_argument I32 0 all))
 
 -- the builtins whose names go on after `__builtin___bnd_`: set_ptr_bounds(q, n), narrow_ptr_bounds(p, q, n), copy_ptr_bounds(q, r),
 -- init_ptr_bounds(q), get_ptr_lbound(q), get_ptr_ubound(q)

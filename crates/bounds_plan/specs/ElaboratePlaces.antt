@@ -5,7 +5,8 @@ use Rattle.std.specs.Str.{bytes_eq}
 use Rattle.mx_base.specs.declared.numbers.IntKind.{IntKind}
 use Rattle.mx_base.specs.declared.places.Place.{Place}
 use Rattle.mx_base.specs.declared.settings.Flags.{Flags}
-use Rattle.mx_base.specs.Operators.{Arithmetic, Times, Over, Rest, Plus, Minus, Left, Right, BitAnd, BitXor, BitOr}
+use Rattle.mx_base.specs.declared.operators.Arithmetic.{Arithmetic}
+use Rattle.mx_base.specs.declared.operators.Arithmetic.TheVariants.{Mul, Div, Rem, Add, Sub, Shl, Shr, BitAnd, BitXor, BitOr}
 use Rattle.narrowing.specs.declared.member.Rule.{Rule}
 use Rattle.narrowing.specs.declared.member.Rule.TheVariants.{Keep, Meet}
 use Rattle.narrowing.specs.Member.{member_rule}
@@ -55,13 +56,13 @@ written_as sort place (InMemory p) v = stored_as sort place p v
 
 -- of the operators only `+` and `-` take a pointer on their left
 abbrev pub takes_away : Arithmetic → Bool
-takes_away Minus = true
-takes_away Times = false
-takes_away Over = false
-takes_away Rest = false
-takes_away Plus = false
-takes_away Left = false
-takes_away Right = false
+takes_away Sub = true
+takes_away Mul = false
+takes_away Div = false
+takes_away Rem = false
+takes_away Add = false
+takes_away Shl = false
+takes_away Shr = false
 takes_away BitAnd = false
 takes_away BitXor = false
 takes_away BitOr = false

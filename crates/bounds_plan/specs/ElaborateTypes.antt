@@ -3,7 +3,8 @@ use Rattle.std.specs.Prelude.{ℕ, nat_le, nat_lt, Bool, true, false, if◌then�
 use Rattle.mx_base.specs.declared.numbers.IntKind.{IntKind}
 use Rattle.mx_base.specs.declared.numbers.IntKind.TheVariants.{I8, U8, I16, U16, I32, U32, I64, U64}
 use Rattle.mx_base.specs.Numbers.{is_signed}
-use Rattle.mx_base.specs.Operators.{Arithmetic, Times, Over, Rest, Plus, Minus, Left, Right, BitAnd, BitXor, BitOr}
+use Rattle.mx_base.specs.declared.operators.Arithmetic.{Arithmetic}
+use Rattle.mx_base.specs.declared.operators.Arithmetic.TheVariants.{Mul, Div, Rem, Add, Sub, Shl, Shr, BitAnd, BitXor, BitOr}
 use Rattle.c_types.specs.Types.{CType, Void, Int, Pointer, Array, Struct, StructType}
 use Rattle.c_types.specs.Layouts.{width, layout_of}
 use Rattle.bounds_plan.specs.Core.{NumberExpr, Convert, AsNumber, PointerExpr, Null, FromInteger}
@@ -94,13 +95,13 @@ common a b = joined (promoted a) (promoted b)
 
 -- a shift is done in the type of its left operand
 abbrev pub done_in : Arithmetic → IntKind → IntKind → IntKind
-done_in Times a b = common a b
-done_in Over a b = common a b
-done_in Rest a b = common a b
-done_in Plus a b = common a b
-done_in Minus a b = common a b
-done_in Left a b = promoted a
-done_in Right a b = promoted a
+done_in Mul a b = common a b
+done_in Div a b = common a b
+done_in Rem a b = common a b
+done_in Add a b = common a b
+done_in Sub a b = common a b
+done_in Shl a b = promoted a
+done_in Shr a b = promoted a
 done_in BitAnd a b = common a b
 done_in BitXor a b = common a b
 done_in BitOr a b = common a b
@@ -118,13 +119,13 @@ converted from to e = if keeps from to then e else Convert to e
 
 -- the right operand of a shift stays as it is: its count is taken modulo 64 or 32
 abbrev pub right_operand : Arithmetic → (from to : IntKind) → NumberExpr → NumberExpr
-right_operand Times from to e = converted from to e
-right_operand Over from to e = converted from to e
-right_operand Rest from to e = converted from to e
-right_operand Plus from to e = converted from to e
-right_operand Minus from to e = converted from to e
-right_operand Left from to e = e
-right_operand Right from to e = e
+right_operand Mul from to e = converted from to e
+right_operand Div from to e = converted from to e
+right_operand Rem from to e = converted from to e
+right_operand Add from to e = converted from to e
+right_operand Sub from to e = converted from to e
+right_operand Shl from to e = e
+right_operand Shr from to e = e
 right_operand BitAnd from to e = converted from to e
 right_operand BitXor from to e = converted from to e
 right_operand BitOr from to e = converted from to e

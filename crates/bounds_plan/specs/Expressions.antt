@@ -1,9 +1,12 @@
 -- What expressions do. Operands are evaluated from left to right.
 use Rattle.std.specs.Prelude.{ℕ, zero, suc, ◌+◌, ◌*◌, ◌-◌, ◌%◌, Bool, false, if◌then◌else◌, Option, None, Some, List, [], ◌∷◌}
+use Rattle.mx_base.specs.declared.services.CService.{CService}
+use Rattle.mx_base.specs.declared.services.CService.TheVariants as in_c
 use Rattle.mx_base.specs.declared.limits.Bounds.{Bounds as BoundsPair}
 use Rattle.mx_base.specs.declared.numbers.IntKind.{IntKind}
 use Rattle.mx_base.specs.Numbers.{extended}
-use Rattle.mx_base.specs.Operators.{Arithmetic, word_arithmetic, word_compares}
+use Rattle.mx_base.specs.declared.operators.Arithmetic.{Arithmetic}
+use Rattle.mx_base.specs.Operators.{word_arithmetic, word_compares}
 use Rattle.mx_base.specs.Bounds.{addresses, met, moved, bounds_at}
 use Rattle.mx_base.specs.Access.{Refusal}
 use Rattle.mx_base.specs.Services.{Served, Answers, Exits, Overflows, Refused}
@@ -54,8 +57,8 @@ served_with (Exits code) = stop (Exit code)
 served_with Overflows = stop StackOver
 served_with (Refused why) = stop (stop_by why)
 
-abbrev pub serving : ℕ → (word : ℕ) → M ℕ
-serving number word = λ s. served_with (served_in_c number word s.world) s
+abbrev pub serving : CService → (word : ℕ) → M ℕ
+serving service word = λ s. served_with (served_in_c service word s.world) s
 
 -- the pointer to a new block: null with full bounds, or its bytes
 abbrev pub block : (size address : ℕ) → M Pointer
@@ -164,10 +167,10 @@ abbrev mutual
     vs ← arguments names args
     v ← calling names symbol vs
     pure (number_passed v)
-  number names (Serve n e) = do
+  number names (Serve service e) = do
     word ← number names e
-    serving n word
-  number names (Ask n) = serving n 0
+    serving service word
+  number names (Ask service) = serving service 0
 
   pub pointer : Names → PointerExpr → M Pointer
   pointer names Null = full_by NullConstant 0
@@ -221,7 +224,7 @@ abbrev mutual
     pointer_passed v
   pointer names (Alloc e) = do
     n ← number names e
-    a ← serving 3 n
+    a ← serving in_c.Alloc n
     block n a
   pointer names (SetBounds e n) = do
     q ← pointer names e

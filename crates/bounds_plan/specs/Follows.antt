@@ -48,8 +48,8 @@ abbrev mutual
   Fits private is_bounds takes (Or a b) = Fits private is_bounds takes a × Fits private is_bounds takes b
   Fits private is_bounds takes (Choose test a b) = Fits private is_bounds takes test × Fits private is_bounds takes a × Fits private is_bounds takes b
   Fits private is_bounds takes (Call symbol args) = (count args ≡ takes symbol) × FitsAll private is_bounds takes args
-  Fits private is_bounds takes (Serve n e) = Fits private is_bounds takes e
-  Fits private is_bounds takes (Ask n) = Unit {0}
+  Fits private is_bounds takes (Serve service e) = Fits private is_bounds takes e
+  Fits private is_bounds takes (Ask service) = Unit {0}
 
   pub FitsPtr : (private : ℕ) → (is_bounds : ℕ → Bool) → (takes : ℕ → ℕ) → PointerExpr → Type 0
   FitsPtr private is_bounds takes Null = Unit {0}

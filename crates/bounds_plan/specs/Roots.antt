@@ -130,8 +130,8 @@ abbrev mutual
   Names S F P (Or a b) = Names S F P a × Names S F P b
   Names S F P (Choose test a b) = Names S F P test × Names S F P a × Names S F P b
   Names S F P (Call symbol args) = NamesAll S F P args
-  Names S F P (Serve n e) = Names S F P e
-  Names S F P (Ask n) = Unit {0}
+  Names S F P (Serve service e) = Names S F P e
+  Names S F P (Ask service) = Unit {0}
 
   pub NamesPtr : (ℕ → ℕ → ℕ → Type 0) → (ℕ → ℕ → Type 0) → (ℕ → Type 0) → PointerExpr → Type 0
   NamesPtr S F P Null = Unit {0}

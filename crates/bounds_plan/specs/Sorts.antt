@@ -24,8 +24,8 @@ abbrev mutual
   pairs (Or a b) = max (pairs a) (pairs b)
   pairs (Choose test a b) = max (pairs test) (max (pairs a) (pairs b))
   pairs (Call symbol args) = max (pairs_all args) 1
-  pairs (Serve n e) = pairs e
-  pairs (Ask n) = 1
+  pairs (Serve service e) = pairs e
+  pairs (Ask service) = 1
 
   pub pairs_ptr : PointerExpr → ℕ
   pairs_ptr Null = 1
@@ -106,7 +106,7 @@ NamesRight N B (s.Label n) = Unit {0}
 NamesRight N B (s.Jump n) = Unit {0}
 NamesRight N B (s.JumpIf from n) = N from
 NamesRight N B (s.Call symbol args to bounds) = OfArguments N B args × OfSome N to × OfSome B bounds
-NamesRight N B (s.Service number arg to) = OfSome N arg × OfSome N to
+NamesRight N B (s.Service service arg to) = OfSome N arg × OfSome N to
 NamesRight N B (s.Give from bounds) = OfSome N from × OfSome B bounds
 
 abbrev pub AllNameRight : (N B : ℕ → Type 0) → List FatStep → Type 0

@@ -1,10 +1,12 @@
 -- Small programs as core trees, to see what the definitions make of them.
 use Rattle.std.specs.Prelude.{ℕ, Bool, true, false, if◌then◌else◌, ◌==◌, Option, None, Some, List, [], ◌∷◌}
+use Rattle.mx_base.specs.declared.services.CService.TheVariants as in_c
 use Rattle.mx_base.specs.declared.limits.Bounds.{Bounds}
 use Rattle.mx_base.specs.declared.numbers.IntKind.TheVariants.{I8, I32, I64}
 use Rattle.mx_base.specs.declared.places.Place.{Place}
 use Rattle.mx_base.specs.declared.settings.Flags.{Flags}
-use Rattle.mx_base.specs.Operators.{Plus, Minus, Over, Below, Equal}
+use Rattle.mx_base.specs.declared.operators.Arithmetic.TheVariants.{Add, Sub, Div}
+use Rattle.mx_base.specs.declared.operators.Comparison.TheVariants.{Less, Equal}
 use Rattle.mx_base.specs.StopOfC.{StopOfC}
 use Rattle.mx_base.specs.Memory.{no_bytes}
 use Rattle.mx_base.specs.World.{Access, world_at_start, Log, empty_log}
@@ -110,7 +112,7 @@ abbrev pub does_ptr : PointerExpr → Statement
 does_ptr e = Do (OfPointer e)
 
 abbrev pub print : NumberExpr → Statement
-print e = does (Serve 0 (Convert I64 e))
+print e = does (Serve in_c.Print (Convert I64 e))
 
 abbrev pub ends_with_0 : Statement
 ends_with_0 = ReturnNumber (Word 0)
@@ -133,7 +135,7 @@ array = Object 0 0 4
 abbrev pub writes_element : (i : ℕ) → Statement
 writes_element i = in_order (
     does (Store I8 (at 2 17) (Element false 1 array (Word i)) (Convert I8 (Word 1)))
-    ∷ does (Serve 1 (Load I8 (at 2 29) (Element false 1 array (Word i))))
+    ∷ does (Serve in_c.Put (Load I8 (at 2 29) (Element false 1 array (Word i))))
     ∷ ends_with_0
     ∷ [])
 
@@ -150,7 +152,7 @@ abbrev pub fills_block : Statement
 fills_block = in_order (
     does_ptr (AssignPtr 0 (Alloc (Word 9)))
     ∷ does (Assign 2 (Word 0))
-    ∷ For (Compare Below I32 (Variable 2) (Word 10)) (OfNumber (Update 2 I32 Plus I32 (Word 1) true)) (in_order (
+    ∷ For (Compare Less I32 (Variable 2) (Word 10)) (OfNumber (Update 2 I32 Add I32 (Word 1) true)) (in_order (
     does (Store I8 (at 2 20) (Element false 1 (VariablePtr 0) (Variable 2)) (Convert I8 (Variable 2)))
     ∷ print (Load I8 (at 2 34) (Element false 1 (VariablePtr 0) (Variable 2)))
     ∷ []))
@@ -166,7 +168,7 @@ abbrev pub array_and_pointer : ℕ → ℕ
 array_and_pointer s = if s == 0 then 0x2000_0000 else 0x2000_0008
 
 abbrev pub changes_byte : (up : Bool) → Statement
-changes_byte up = does (Store I8 (at 2 46) (Element false 1 (VariablePtr 0) (Word 0)) (Convert I8 (Operate (if up then Plus else Minus) I32 (Load I8 (at 2 53) (Element false 1 (VariablePtr 0) (Word 0))) (Word 1))))
+changes_byte up = does (Store I8 (at 2 46) (Element false 1 (VariablePtr 0) (Word 0)) (Convert I8 (Operate (if up then Add else Sub) I32 (Load I8 (at 2 53) (Element false 1 (VariablePtr 0) (Word 0))) (Word 1))))
 
 abbrev pub keeps_pointer : (spoils : Bool) → Statement
 keeps_pointer spoils = in_order (
@@ -194,7 +196,7 @@ spreads_pointers = in_order (
 
 abbrev pub reads_last_byte : Statement
 reads_last_byte = in_order (
-    does_ptr (AssignPtr 0 (InitBounds (FromInteger (Convert I64 (Operate Minus I32 (Word 0) (Word 1))))))
+    does_ptr (AssignPtr 0 (InitBounds (FromInteger (Convert I64 (Operate Sub I32 (Word 0) (Word 1))))))
     ∷ print (Load I64 (at 1 80) (VariablePtr 0))
     ∷ ends_with_0
     ∷ [])
@@ -236,7 +238,7 @@ copies_pointers = in_order (
 -- ---- int main(void){ int i; for(i=0;;i++) print(i); }
 
 abbrev pub counts : Statement
-counts = Then (does (Assign 0 (Word 0))) (For (Word 1) (OfNumber (Update 0 I32 Plus I32 (Word 1) true)) (print (Variable 0)))
+counts = Then (does (Assign 0 (Word 0))) (For (Word 1) (OfNumber (Update 0 I32 Add I32 (Word 1) true)) (print (Variable 0)))
 
 -- ---- int f(int n){ if(n==0) return 0; return f(n-1); }
 -- int main(void){ return f(N); }, where `depth` calls may be entered
@@ -247,7 +249,7 @@ descends = record {
   privates = false ∷ [];
   variables = [];
   frame = 0;
-  body = Then (If (Compare Equal I32 (Variable 0) (Word 0)) ends_with_0 Skip) (ReturnNumber (Call 0 (WithNumber (Operate Minus I32 (Variable 0) (Word 1)) NoMore)));
+  body = Then (If (Compare Equal I32 (Variable 0) (Word 0)) ends_with_0 Skip) (ReturnNumber (Call 0 (WithNumber (Operate Sub I32 (Variable 0) (Word 1)) NoMore)));
 }
 
 abbrev pub descent : (n f : ℕ) → Linked
@@ -262,16 +264,16 @@ run_descent_steps n depth turns = told_of_steps (exited_steps (steps_calls (λ f
 -- ---- int main(void){ print(1/0); return 0; }
 
 abbrev pub divides_by_0 : Statement
-divides_by_0 = in_order (print (Operate Over I32 (Word 1) (Word 0)) ∷ ends_with_0 ∷ [])
+divides_by_0 = in_order (print (Operate Div I32 (Word 1) (Word 0)) ∷ ends_with_0 ∷ [])
 
 -- ---- int main(void){ char *p = alloc(8); print(free(p)); print(free(p)); print(get()); return 0; }
 
 abbrev pub frees_twice : Statement
 frees_twice = in_order (
     does_ptr (AssignPtr 0 (Alloc (Word 8)))
-    ∷ print (Serve 4 (AsNumber (VariablePtr 0)))
-    ∷ print (Serve 4 (AsNumber (VariablePtr 0)))
-    ∷ print (Ask 2)
+    ∷ print (Serve in_c.Free (AsNumber (VariablePtr 0)))
+    ∷ print (Serve in_c.Free (AsNumber (VariablePtr 0)))
+    ∷ print (Ask in_c.Get)
     ∷ ends_with_0
     ∷ [])
 
@@ -281,10 +283,10 @@ abbrev pub skips_2 : Statement
 skips_2 = in_order (
     does (Assign 2 (Word 0))
     ∷ DoWhile (in_order (
-    does (Update 2 I32 Plus I32 (Word 1) true)
+    does (Update 2 I32 Add I32 (Word 1) true)
     ∷ If (Compare Equal I32 (Variable 2) (Word 2)) Continue Skip
     ∷ print (Variable 2)
-    ∷ [])) (Compare Below I32 (Variable 2) (Word 3))
+    ∷ [])) (Compare Less I32 (Variable 2) (Word 3))
     ∷ ends_with_0
     ∷ [])
 
@@ -336,6 +338,6 @@ run_borrowing_steps n turns = told_of_steps (exited_steps (steps_calls (λ f. co
 abbrev pub adds_in_order : Statement
 adds_in_order = in_order (
     does (Store I8 (at 2 24) (ElementAfter 1 (Assign 2 (Word 1)) (Element false 1 array (Variable 2))) (Convert I8 (Word 7)))
-    ∷ does (Serve 1 (Load I8 (at 2 46) (Element false 1 array (Word 2))))
+    ∷ does (Serve in_c.Put (Load I8 (at 2 46) (Element false 1 array (Word 2))))
     ∷ ends_with_0
     ∷ [])

@@ -22,8 +22,8 @@ module _ (S T U : ℕ → ℕ → ℕ → Type 0) (F G H : ℕ → ℕ → Type 
     both_number (Or a b) h k = (both_number a h.0 k.0, both_number b h.1 k.1)
     both_number (Choose test a b) h k = (both_number test h.0 k.0, both_number a h.1 k.1, both_number b h.2 k.2)
     both_number (Call symbol args) h k = both_arguments args h k
-    both_number (Serve n e) h k = both_number e h k
-    both_number (Ask n) h k = tt
+    both_number (Serve service e) h k = both_number e h k
+    both_number (Ask service) h k = tt
 
     both_pointer : (x : PointerExpr) → NamesPtr S F P x → NamesPtr T G Q x → NamesPtr U H R x
     both_pointer Null h k = tt

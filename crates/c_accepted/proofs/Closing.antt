@@ -4,7 +4,9 @@ use Rattle.std.specs.Prelude.{Option, None, Some, slice_get}
 use Rattle.mx_base.specs.declared.numbers.IntKind.{IntKind}
 use Rattle.mx_base.specs.declared.numbers.IntKind.TheVariants.{I32, I64, U64}
 use Rattle.mx_base.specs.declared.places.Place.{Place}
-use Rattle.mx_base.specs.Operators.{Arithmetic, Times, Over, Rest, Plus, Minus, Left, Right, BitAnd, BitXor, BitOr, Comparison}
+use Rattle.mx_base.specs.declared.operators.Arithmetic.{Arithmetic}
+use Rattle.mx_base.specs.declared.operators.Arithmetic.TheVariants.{Mul, Div, Rem, Add, Sub, Shl, Shr, BitAnd, BitXor, BitOr}
+use Rattle.mx_base.specs.declared.operators.Comparison.{Comparison}
 use Rattle.narrowing.specs.declared.member.Rule.{Rule}
 use Rattle.narrowing.specs.declared.member.Rule.TheVariants.{Keep, Meet}
 use Rattle.c_types.specs.Types.{CType, Void, StructType}
@@ -58,13 +60,13 @@ module _ (S : ℕ → ℕ → ℕ → Type 0) (F : ℕ → ℕ → Type 0) (P : 
   converted_names from to e h = kept_or_converted (keeps from to) to e h
 
   right_names : (op : Arithmetic) (from to : IntKind) (e : NumberExpr) → Names S F P e → Names S F P (right_operand op from to e)
-  right_names Times from to e h = converted_names from to e h
-  right_names Over from to e h = converted_names from to e h
-  right_names Rest from to e h = converted_names from to e h
-  right_names Plus from to e h = converted_names from to e h
-  right_names Minus from to e h = converted_names from to e h
-  right_names Left from to e h = h
-  right_names Right from to e h = h
+  right_names Mul from to e h = converted_names from to e h
+  right_names Div from to e h = converted_names from to e h
+  right_names Rem from to e h = converted_names from to e h
+  right_names Add from to e h = converted_names from to e h
+  right_names Sub from to e h = converted_names from to e h
+  right_names Shl from to e h = h
+  right_names Shr from to e h = h
   right_names BitAnd from to e h = converted_names from to e h
   right_names BitXor from to e h = converted_names from to e h
   right_names BitOr from to e h = converted_names from to e h
@@ -199,7 +201,7 @@ module _ (S : ℕ → ℕ → ℕ → Type 0) (F : ℕ → ℕ → Type 0) (P : 
       (changed_names around.structs (compound_at op) a (kind_of b.type) (number_in b.value) false h (number_names b.value k.value))
 
   pub stepped_names : (around : Around) (up before : Bool) (a : Found) (place : Place) (after : Reached) → NamesFound a → NamesFound (stepped_by around up before a place after)
-  stepped_names around up before a place after h = no_place_names a.type _ place after (changed_names around.structs (if up then Plus else Minus) a I32 (Word 1) (not before) h tt)
+  stepped_names around up before a place after h = no_place_names a.type _ place after (changed_names around.structs (if up then Add else Sub) a I32 (Word 1) (not before) h tt)
 
   -- ---- calls
 

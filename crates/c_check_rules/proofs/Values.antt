@@ -4,7 +4,8 @@ use Rattle.std.proofs.lemmas.Int.{ints}
 use Rattle.mx_base.specs.declared.numbers.IntKind.{IntKind}
 use Rattle.mx_base.specs.declared.numbers.IntKind.TheVariants.{I8, U8, I16, U16, I32, U32, I64, U64}
 use Rattle.mx_base.specs.Numbers.{IsNumberOf, value_of, number_of, wrapped, residue, word_of}
-use Rattle.mx_base.specs.Operators.{Times, arithmetic, word_arithmetic}
+use Rattle.mx_base.specs.declared.operators.Arithmetic.TheVariants.{Mul}
+use Rattle.mx_base.specs.Operators.{arithmetic, word_arithmetic}
 use Rattle.c_check_rules.specs.Constants.{is_unsigned_long}
 
 pub least_bound : (k : IntKind) (n : ℤ) → IsNumberOf k n → negsuc 0x7fff_ffff_ffff_ffff ≤ℤ n
@@ -51,7 +52,7 @@ product_word a b p q =
     let eb : b % 0x1_0000_0000_0000_0000 ≡ b = omega arith in
     rw (ea, eb) (omega arith)
 
-pub low_product_is : (k : IntKind) (a b : ℕ) → is_unsigned_long k ≡ true → a < 2 ^ 64 → b < 2 ^ 64 → word_arithmetic Times k a b ≡ Some ((a * b) % 0x1_0000_0000_0000_0000)
+pub low_product_is : (k : IntKind) (a b : ℕ) → is_unsigned_long k ≡ true → a < 2 ^ 64 → b < 2 ^ 64 → word_arithmetic Mul k a b ≡ Some ((a * b) % 0x1_0000_0000_0000_0000)
 unfolding word_arithmetic arithmetic value_of number_of wrapped residue word_of
 low_product_is I8 a b e p q = absurd (cc)
 low_product_is U8 a b e p q = absurd (cc)

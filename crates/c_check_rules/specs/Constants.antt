@@ -4,7 +4,9 @@ use Rattle.std.specs.Prelude.{ℕ, ◌==◌, nat_lt, Bool, true, false, ◌||◌
 use Rattle.mx_base.specs.declared.numbers.IntKind.{IntKind}
 use Rattle.mx_base.specs.declared.numbers.IntKind.TheVariants.{U64}
 use Rattle.mx_base.specs.Numbers.{value_of, word_of, extended}
-use Rattle.mx_base.specs.Operators.{Arithmetic, Comparison, negated, inverted, is_zero, arithmetic_at, comparison_at, word_arithmetic, compares}
+use Rattle.mx_base.specs.declared.operators.Arithmetic.{Arithmetic}
+use Rattle.mx_base.specs.declared.operators.Comparison.{Comparison}
+use Rattle.mx_base.specs.Operators.{negated, inverted, is_zero, arithmetic_at, comparison_at, word_arithmetic, compares}
 use Rattle.c_check_rules.specs.declared.kinds.Outer.{Outer}
 use Rattle.c_check_rules.specs.declared.kinds.Outer.TheVariants as o
 use Rattle.c_check_rules.specs.declared.constants.Constant.{Constant}

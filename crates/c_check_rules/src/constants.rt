@@ -3,7 +3,9 @@
 ghost use Rattle.std.specs.Prelude.{◌≡◌, ◌≤ℤ◌, ◌+ℤ◌, ◌-ℤ◌, ◌*ℤ◌, ◌*◌, ◌%◌, ◌^◌, ◌≤◌, unsigned_abs, true, ◌<◌, pos, negsuc, Some, not, false, int_div, int_rem};
 ghost use Rattle.std.specs.Ordering.{int_eq};
 ghost use Rattle.mx_base.specs.Numbers.{value_of, word_of as word_of_number, residue};
-ghost use Rattle.mx_base.specs.Operators.{Times, Over, Rest, Plus, Minus, Left, Right, BitAnd, BitXor, BitOr, Below, AtMost, Equal, compares, negated, inverted, is_zero, is_long as spec_is_long, has_no_quotient as spec_has_no_quotient, count_modulus as spec_count_modulus, comparison_at, word_arithmetic, Differs};
+ghost use Rattle.mx_base.specs.declared.operators.Arithmetic.TheVariants.{Mul, Div, Rem, Add, Sub, Shl, Shr, BitAnd, BitXor, BitOr};
+ghost use Rattle.mx_base.specs.declared.operators.Comparison.TheVariants.{Less, LessOrEqual, Equal, NotEqual};
+ghost use Rattle.mx_base.specs.Operators.{compares, negated, inverted, is_zero, is_long as spec_is_long, has_no_quotient as spec_has_no_quotient, count_modulus as spec_count_modulus, comparison_at, word_arithmetic};
 ghost use Rattle.c_check_rules.specs.Constants as spec;
 
 use crate::kinds::Outer;
@@ -285,7 +287,7 @@ fn remainder(x: i128, y: i128) -> i128
 
 #[tactic(auto, unfolding(mx_base::specs::Operators::word_arithmetic, mx_base::specs::Operators::arithmetic))]
 fn plus(kind: IntKind, a: u64, b: u64) -> u64
-    ensures { word_arithmetic Plus kind a b ≡ Some result }
+    ensures { word_arithmetic Add kind a b ≡ Some result }
 {
     let x = number(kind, a);
     let y = number(kind, b);
@@ -294,7 +296,7 @@ fn plus(kind: IntKind, a: u64, b: u64) -> u64
 
 #[tactic(auto, unfolding(mx_base::specs::Operators::word_arithmetic, mx_base::specs::Operators::arithmetic))]
 fn minus(kind: IntKind, a: u64, b: u64) -> u64
-    ensures { word_arithmetic Minus kind a b ≡ Some result }
+    ensures { word_arithmetic Sub kind a b ≡ Some result }
 {
     let x = number(kind, a);
     let y = number(kind, b);
@@ -330,7 +332,7 @@ fn bits_or(kind: IntKind, a: u64, b: u64) -> u64
 
 #[tactic(auto, unfolding(mx_base::specs::Operators::compares))]
 fn below(kind: IntKind, a: u64, b: u64) -> bool
-    ensures { result ≡ compares Below (value_of kind a) (value_of kind b) }
+    ensures { result ≡ compares Less (value_of kind a) (value_of kind b) }
 {
     let x = number(kind, a);
     let y = number(kind, b);
@@ -339,7 +341,7 @@ fn below(kind: IntKind, a: u64, b: u64) -> bool
 
 #[tactic(auto, unfolding(mx_base::specs::Operators::compares))]
 fn at_most(kind: IntKind, a: u64, b: u64) -> bool
-    ensures { result ≡ compares AtMost (value_of kind a) (value_of kind b) }
+    ensures { result ≡ compares LessOrEqual (value_of kind a) (value_of kind b) }
 {
     let x = number(kind, a);
     let y = number(kind, b);
@@ -349,7 +351,7 @@ fn at_most(kind: IntKind, a: u64, b: u64) -> bool
 #[tactic(auto, unfolding(mx_base::specs::Operators::compares))]
 fn equal(kind: IntKind, a: u64, b: u64) -> bool
     ensures same { result ≡ compares Equal (value_of kind a) (value_of kind b) }
-    ensures differs { not result ≡ compares Differs (value_of kind a) (value_of kind b) }
+    ensures differs { not result ≡ compares NotEqual (value_of kind a) (value_of kind b) }
 {
     let x = number(kind, a);
     let y = number(kind, b);
@@ -374,7 +376,7 @@ fn has_no_quotient(kind: IntKind, x: i128, y: i128) -> bool
 
 #[tactic(auto, unfolding(mx_base::specs::Operators::word_arithmetic, mx_base::specs::Operators::arithmetic))]
 fn over(kind: IntKind, a: u64, b: u64) -> Option<u64>
-    ensures { result ≡ word_arithmetic Over kind a b }
+    ensures { result ≡ word_arithmetic Div kind a b }
 {
     let x = number(kind, a);
     let y = number(kind, b);
@@ -387,7 +389,7 @@ fn over(kind: IntKind, a: u64, b: u64) -> Option<u64>
 
 #[tactic(auto, unfolding(mx_base::specs::Operators::word_arithmetic, mx_base::specs::Operators::arithmetic))]
 fn rest(kind: IntKind, a: u64, b: u64) -> Option<u64>
-    ensures { result ≡ word_arithmetic Rest kind a b }
+    ensures { result ≡ word_arithmetic Rem kind a b }
 {
     let x = number(kind, a);
     let y = number(kind, b);
@@ -499,7 +501,7 @@ fn product(x: i128, y: i128) -> i128
 
 #[tactic(auto, unfolding(mx_base::specs::Operators::word_arithmetic, mx_base::specs::Operators::arithmetic))]
 fn left(kind: IntKind, a: u64, b: u64) -> u64
-    ensures { word_arithmetic Left kind a b ≡ Some result }
+    ensures { word_arithmetic Shl kind a b ≡ Some result }
 {
     let x = number(kind, a);
     let factor = power(shift_count(kind, b));
@@ -508,7 +510,7 @@ fn left(kind: IntKind, a: u64, b: u64) -> u64
 
 #[tactic(auto, unfolding(mx_base::specs::Operators::word_arithmetic, mx_base::specs::Operators::arithmetic))]
 fn right(kind: IntKind, a: u64, b: u64) -> u64
-    ensures { word_arithmetic Right kind a b ≡ Some result }
+    ensures { word_arithmetic Shr kind a b ≡ Some result }
 {
     let x = number(kind, a);
     let count = shift_count(kind, b);
@@ -534,7 +536,7 @@ fn low_product(a: u64, b: u64) -> u64
 #[tactic(auto, using(crate::proofs::Values::low_product_is))]
 fn times_unsigned(kind: IntKind, a: u64, b: u64) -> u64
     requires { spec.is_unsigned_long kind ≡ true }
-    ensures { word_arithmetic Times kind a b ≡ Some result }
+    ensures { word_arithmetic Mul kind a b ≡ Some result }
 {
     low_product(a, b)
 }
@@ -542,7 +544,7 @@ fn times_unsigned(kind: IntKind, a: u64, b: u64) -> u64
 #[tactic(auto, unfolding(mx_base::specs::Operators::word_arithmetic, mx_base::specs::Operators::arithmetic))]
 fn times_narrow(kind: IntKind, a: u64, b: u64) -> u64
     requires { spec.is_unsigned_long kind ≡ false }
-    ensures { word_arithmetic Times kind a b ≡ Some result }
+    ensures { word_arithmetic Mul kind a b ≡ Some result }
 {
     let x = number(kind, a);
     let y = number(kind, b);
@@ -550,7 +552,7 @@ fn times_narrow(kind: IntKind, a: u64, b: u64) -> u64
 }
 
 fn times(kind: IntKind, a: u64, b: u64) -> u64
-    ensures { word_arithmetic Times kind a b ≡ Some result }
+    ensures { word_arithmetic Mul kind a b ≡ Some result }
 {
     if is_unsigned_long(kind) {
         times_unsigned(kind, a, b)

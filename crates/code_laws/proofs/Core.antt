@@ -10,7 +10,12 @@ use Rattle.mx_base.specs.declared.numbers.IntKind.TheVariants.{I8, U8, I16, U16,
 use Rattle.mx_base.specs.declared.places.Place.{Place as PlaceOf}
 use Rattle.mx_base.specs.declared.stops.Stop.{Stop}
 use Rattle.mx_base.specs.declared.stops.Stop.TheVariants as stop
-use Rattle.mx_base.specs.Operators.{Arithmetic, Over, Plus, arithmetic_at}
+use Rattle.mx_base.specs.declared.operators.Arithmetic.{Arithmetic}
+use Rattle.mx_base.specs.declared.operators.Arithmetic.TheVariants.{Div, Add, Mul, Rem, Shl, Shr, BitAnd, BitOr, BitXor, Sub}
+use Rattle.mx_base.specs.declared.operators.Comparison.{Comparison}
+use Rattle.mx_base.specs.declared.services.CService.{CService}
+use Rattle.mx_base.specs.declared.services.CService.TheVariants as in_c
+use Rattle.mx_base.specs.Operators.{word_compares, word_arithmetic}
 use Rattle.mx_base.specs.StopOfC.{Bounds, Divide, Exit, AtAccess, AccessOfC, site_of}
 use Rattle.mx_base.specs.Bounds.{leaving_value, last_byte}
 use Rattle.mx_base.specs.Walk.{violation_status}
@@ -61,7 +66,7 @@ use Rattle.code_laws.specs.Views.{regs_put}
 use Rattle.x86_forms.specs.Arithmetic.{result_of}
 use Rattle.code_laws.proofs.Frames.{slot_small}
 use Rattle.code_laws.proofs.Pieces.{load_slot, load_cell}
-use Rattle.fat_ir.specs.Step.{compared, with_number_at, with_pair_at, arguments_then, came_back, jumps_unless_0, operated, computed}
+use Rattle.fat_ir.specs.Step.{goes, with_number, with_number_at, with_pair_at, arguments_then, came_back, jumps_unless_0, computed}
 use Rattle.step_code.specs.Steps.{extend_instr, load_args, put_number_at, put_pair_at, arg_reg}
 use Rattle.step_code.specs.declared.pieces.Piece.TheVariants.{CallTo}
 use Rattle.code_laws.proofs.Calling.{arg_free, arg_apart, same_reg, same_bound, LeavesBefore, at_slot}
@@ -70,7 +75,6 @@ use Rattle.step_code.specs.Homes.{IsSlot}
 use Rattle.code_laws.specs.Runs.{AtHome, IsKnown, IsSort}
 use Rattle.code_laws.proofs.Homes.{number_kept_pair, pair_kept_pair, pair_put}
 use Rattle.step_code.specs.Homes.{Apart}
-use Rattle.mx_base.specs.Operators.{Comparison, comparison_at}
 use Rattle.x86_forms.specs.declared.instr.Instr.TheVariants.{One, Nop, AluTo}
 use Rattle.step_code.specs.declared.pieces.Piece.TheVariants.{LoadSlot, LoadBounds}
 use Rattle.step_code.specs.Pieces.{instr_of}
@@ -84,7 +88,6 @@ use Rattle.code_laws.proofs.Numbers.{after_word, sum, diff, flags_by, shift_flag
 use Rattle.code_laws.proofs.Words.{wide_same, by_words, by_shift, times_is, and_is, or_is, xor_is, extended_low}
 use Rattle.code_laws.proofs.Operators.{left_is, right_is, right_operation, sign_word, quotient_of, over_by, rest_by, signed_division, plain_division, compares_is}
 use Rattle.mx_base.specs.Numbers.{value_of, is_signed}
-use Rattle.mx_base.specs.Operators.{Times, Rest, Left, Right, BitAnd, BitOr, BitXor}
 use Rattle.std.specs.Option.{option_map}
 use Rattle.x86_forms.specs.Arithmetic as op
 use Rattle.x86_forms.specs.Arithmetic.{Cmp, divided, divided_signed}
@@ -93,8 +96,7 @@ use Rattle.x86_forms.specs.declared.instr.Instr.TheVariants.{MovTo, Imul, ShiftC
 use Rattle.step_code.specs.Steps.{is_narrow, widen, needs_words, load_two, operation, condition, shift_width, right_shift}
 use Rattle.code_laws.proofs.Homes.{scratched_by, moved_row}
 use Rattle.step_code.specs.Homes.{IsHomeReg}
-use Rattle.mx_base.specs.Operators.{word_compares, word_arithmetic, Minus}
-use Rattle.x86_forms.specs.Arithmetic.{Flags, Add, Sub}
+use Rattle.x86_forms.specs.Arithmetic.{Flags}
 use Rattle.step_code.specs.Steps.{lower_compare}
 use Rattle.obj_file.specs.Machine.{is_call, is_return, is_service}
 use Rattle.x86_forms.specs.Accesses.{accesses}
@@ -268,26 +270,32 @@ zero_rdi : (c : Processor) (next : ℕ) → row (MovImm 64 (reg 7) (pos 0)) next
 unfolding row part_written
 zero_rdi c next = refl
 
-by_six : (P : ℕ → Type 0) (n : ℕ) → n < 6 → P 0 → P 1 → P 2 → P 3 → P 4 → P 5 → P n
-by_six P zero l a b c d e f = a
-by_six P (suc zero) l a b c d e f = b
-by_six P (suc (suc zero)) l a b c d e f = c
-by_six P (suc (suc (suc zero))) l a b c d e f = d
-by_six P (suc (suc (suc (suc zero)))) l a b c d e f = e
-by_six P (suc (suc (suc (suc (suc zero))))) l a b c d e f = f
-by_six P (suc (suc (suc (suc (suc (suc n)))))) l a b c d e f = absurd (omega arith)
-
-number_row : (c : Processor) (next number : ℕ) → number < 6 → row (MovImm 64 (reg 0) (pos (service_number number))) next c ≡ RequestEnds (with_word (at_next c next) 0 (service_number number))
+number_row : (c : Processor) (next : ℕ) (service : CService) → row (MovImm 64 (reg 0) (pos (service_number service))) next c ≡ RequestEnds (with_word (at_next c next) 0 (service_number service))
 unfolding row part_written
-number_row c next number l = by_six (λ m. row (MovImm 64 (reg 0) (pos (service_number m))) next c ≡ RequestEnds (with_word (at_next c next) 0 (service_number m))) number l refl refl refl refl refl refl
+number_row c next in_c.Print = refl
+number_row c next in_c.Put = refl
+number_row c next in_c.Get = refl
+number_row c next in_c.Alloc = refl
+number_row c next in_c.Free = refl
+number_row c next in_c.Exit = refl
 
-service_is : (number : ℕ) → number < 6 → service_of (service_number number) ≡ c_service number
+service_is : (service : CService) → service_of (service_number service) ≡ c_service service
 unfolding service_of c_service
-service_is number l = by_six (λ m. service_of (service_number m) ≡ c_service m) number l refl refl refl refl refl refl
+service_is in_c.Print = refl
+service_is in_c.Put = refl
+service_is in_c.Get = refl
+service_is in_c.Alloc = refl
+service_is in_c.Free = refl
+service_is in_c.Exit = refl
 
-of_c : (number : ℕ) → number < 6 → IsOfC (c_service number)
+of_c : (service : CService) → IsOfC (c_service service)
 unfolding c_service
-of_c number l = by_six (λ m. IsOfC (c_service m)) number l tt tt tt tt tt tt
+of_c in_c.Print = tt
+of_c in_c.Put = tt
+of_c in_c.Get = tt
+of_c in_c.Alloc = tt
+of_c in_c.Free = tt
+of_c in_c.Exit = tt
 
 zero_row : (c : Processor) (next : ℕ) → row (MovImm 64 (reg 0) (pos 0)) next c ≡ RequestEnds (with_word (at_next c next) 0 0)
 unfolding row part_written
@@ -1106,10 +1114,10 @@ module _ (S : Setting) (ok : IsSetting S) (p : Plan) (access_of : ℕ → Option
     pub accesses_none : (next : ℕ) (regs : ℕ → ℕ) → accesses i next regs ≡ []
     pub is_row : (c : Processor) (next : ℕ) → row i next c ≡ RequestEnds (after_word f flags c next)
 
-  adds : Yields (AluTo 0 64 (reg 1) (in_reg 0)) sum (flags_by Add)
+  adds : Yields (AluTo 0 64 (reg 1) (in_reg 0)) sum (flags_by op.Add)
   adds = record { call = refl; return = refl; service = refl; accesses_none = λ next regs. refl; is_row = add_row }
 
-  subtracts : Yields (AluTo 3 64 (reg 1) (in_reg 0)) diff (flags_by Sub)
+  subtracts : Yields (AluTo 3 64 (reg 1) (in_reg 0)) diff (flags_by op.Sub)
   subtracts = record { call = refl; return = refl; service = refl; accesses_none = λ next regs. refl; is_row = sub_row }
 
   multiplies : Yields (Imul 64 (reg 0) (in_reg 1)) (by_words op.Imul) (flags_by op.Imul)
@@ -1132,7 +1140,7 @@ module _ (S : Setting) (ok : IsSetting S) (p : Plan) (access_of : ℕ → Option
 
   one_goes : (op : Arithmetic) (instr : Instr) (f : ℕ → ℕ → ℕ) (given : Processor → Flags) (kind : IntKind) (n : ℕ) (pre is : List FatStep) (step : FatStep) (to a b : ℕ) (values : Values) (v : View) (y : Stored) (next x z g h : ℕ) → Yields instr f given → word_arithmetic op kind x z ≡ Some (extended kind (f g h))
       → Operands pre is step to a b values v y next x z n → (u : View) (w : Stored) (j : ℕ) → Seen S u w → Loaded v u g h → StandAll S.code S.label_at S.entry_at u.processor.rip (Plain instr ∷ Plain (extend_instr kind 0) ∷ put (p.home to) 0 ∷ []) next
-      → Ends S p access_of (whole_of S u w j) (Result_of n (and_then (operated to (Some op) kind x z (st values v)) (pass symbols is)))
+      → Ends S p access_of (whole_of S u w j) (Result_of n (and_then (computed to (word_arithmetic op kind x z) (st values v)) (pass symbols is)))
   one_goes op instr f given kind n pre is step to a b values v y next x z g h yields value_is q u w j seen two l =
       let m = f (u.processor.regs 0) (u.processor.regs 1) in
       let u1 : View = record u { processor = after_word f given u.processor l.0 } in
@@ -1198,7 +1206,7 @@ module _ (S : Setting) (ok : IsSetting S) (p : Plan) (access_of : ℕ → Option
       ] refl)
 
   abbrev Goal_of : ℕ → List FatStep → (to : ℕ) → Arithmetic → IntKind → (x z : ℕ) → Values → View → Outcome
-  Goal_of n is to op kind x z values v = Result_of n (and_then (operated to (Some op) kind x z (st values v)) (pass symbols is))
+  Goal_of n is to op kind x z values v = Result_of n (and_then (computed to (word_arithmetic op kind x z) (st values v)) (pass symbols is))
 
   computed_so : (n : ℕ) (is : List FatStep) (to : ℕ) (op : Arithmetic) (kind : IntKind) (x z : ℕ) (values : Values) (v : View) (o : Option ℕ) → word_arithmetic op kind x z ≡ o → Goal_of n is to op kind x z values v ≡ Result_of n (and_then (computed to o (st values v)) (pass symbols is))
   computed_so n is to op kind x z values v o e = ap (λ (t : Option ℕ). Result_of n (and_then (computed to t (st values v)) (pass symbols is))) e
@@ -1206,25 +1214,25 @@ module _ (S : Setting) (ok : IsSetting S) (p : Plan) (access_of : ℕ → Option
   over_goes : (ready i : Instr) (high : ℕ → ℕ) (by : ℕ → ℕ → ℕ → Option (ℕ × ℕ)) → Divided ready i high by → (kind : IntKind) (n : ℕ) (pre is : List FatStep) (step : FatStep) (to a b : ℕ) (values : Values) (v : View) (y : Stored) (next x z : ℕ) → Operands pre is step to a b values v y next x z n
       → by (high (extended kind x)) (extended kind x) (extended kind z) ≡ quotient_of kind (value_of kind x) (value_of kind z)
       → (u : View) (w : Stored) (j : ℕ) → Seen S u w → Loaded v u (extended kind x) (extended kind z) → StandAll S.code S.label_at S.entry_at u.processor.rip (Plain ready ∷ Plain i ∷ Plain (extend_instr kind 0) ∷ put (p.home to) 0 ∷ []) next
-      → Ends S p access_of (whole_of S u w j) (Goal_of n is to Over kind x z values v)
+      → Ends S p access_of (whole_of S u w j) (Goal_of n is to Div kind x z values v)
   over_goes ready i high by d kind n pre is step to a b values v y next x z q gives u w j seen two l =
       division_goes ready i high by d v u w j next (extended kind x) (extended kind z) (Plain (extend_instr kind 0) ∷ put (p.home to) 0 ∷ []) _ _ seen two gives l
-      (λ none. computed_so n is to Over kind x z values v None (over_by kind x z ∙ ap (option_map (λ (t : ℕ × ℕ). extended kind t.0)) none))
+      (λ none. computed_so n is to Div kind x z values v None (over_by kind x z ∙ ap (option_map (λ (t : ℕ × ℕ). extended kind t.0)) none))
       (λ t some u2 y2 k2 seen2 scr same rax rdx l2.
-      retold _ _ _ (computed_so n is to Over kind x z values v (Some (extended kind (low 64 t.0))) (over_by kind x z ∙ ap (option_map (λ (t : ℕ × ℕ). extended kind t.0)) some ∙ ap (λ (m : ℕ). let o : Option ℕ = Some m in o) (sym (extended_low kind t.0))))
+      retold _ _ _ (computed_so n is to Div kind x z values v (Some (extended kind (low 64 t.0))) (over_by kind x z ∙ ap (option_map (λ (t : ℕ × ℕ). extended kind t.0)) some ∙ ap (λ (m : ℕ). let o : Option ℕ = Some m in o) (sym (extended_low kind t.0))))
       (extended_goes kind n pre is step to a b values v y next x z (low 64 t.0) q u2 y2 k2 seen2 scr same rax l2))
 
   rest_goes : (ready i : Instr) (high : ℕ → ℕ) (by : ℕ → ℕ → ℕ → Option (ℕ × ℕ)) → Divided ready i high by → (kind : IntKind) (n : ℕ) (pre is : List FatStep) (step : FatStep) (to a b : ℕ) (values : Values) (v : View) (y : Stored) (next x z : ℕ) → Operands pre is step to a b values v y next x z n
       → by (high (extended kind x)) (extended kind x) (extended kind z) ≡ quotient_of kind (value_of kind x) (value_of kind z)
       → (u : View) (w : Stored) (j : ℕ) → Seen S u w → Loaded v u (extended kind x) (extended kind z) → StandAll S.code S.label_at S.entry_at u.processor.rip (Plain ready ∷ Plain i ∷ Plain (MovTo 64 (reg 2) (in_reg 0)) ∷ Plain (extend_instr kind 0) ∷ put (p.home to) 0 ∷ []) next
-      → Ends S p access_of (whole_of S u w j) (Goal_of n is to Rest kind x z values v)
+      → Ends S p access_of (whole_of S u w j) (Goal_of n is to Rem kind x z values v)
   rest_goes ready i high by d kind n pre is step to a b values v y next x z q gives u w j seen two l =
       division_goes ready i high by d v u w j next (extended kind x) (extended kind z) (Plain (MovTo 64 (reg 2) (in_reg 0)) ∷ Plain (extend_instr kind 0) ∷ put (p.home to) 0 ∷ []) _ _ seen two gives l
-      (λ none. computed_so n is to Rest kind x z values v None (rest_by kind x z ∙ ap (option_map (λ (t : ℕ × ℕ). extended kind t.1)) none))
+      (λ none. computed_so n is to Rem kind x z values v None (rest_by kind x z ∙ ap (option_map (λ (t : ℕ × ℕ). extended kind t.1)) none))
       (λ t some u2 y2 k2 seen2 scr same rax rdx l2.
       let g = u2.processor.regs 2 in
       let u3 = with_scratch u2 l2.0 0 g in
-      retold _ _ _ (computed_so n is to Rest kind x z values v (Some (extended kind (low 64 t.1))) (rest_by kind x z ∙ ap (option_map (λ (t : ℕ × ℕ). extended kind t.1)) some ∙ ap (λ (m : ℕ). let o : Option ℕ = Some m in o) (sym (extended_low kind t.1))))
+      retold _ _ _ (computed_so n is to Rem kind x z values v (Some (extended kind (low 64 t.1))) (rest_by kind x z ∙ ap (option_map (λ (t : ℕ × ℕ). extended kind t.1)) some ∙ ap (λ (m : ℕ). let o : Option ℕ = Some m in o) (sym (extended_low kind t.1))))
       (thru _ u3 _ (plain_goes S ok u2 y2 k2 l2.0 _ u3.processor (record { seen = seen2; stands = l2.1 }) (record { call = refl; return = refl; service = refl; accesses_none = refl; is_row = moved_row u2.processor l2.0 2 0 (seen2.words.regs_fit 2); is_next = refl; leaves = with_reg_leaves u2.processor.regs 0 g rax_free; preserve = refl }))
       (λ y3 k3 seen3. extended_goes kind n pre is step to a b values v y next x z (low 64 t.1) q u3 y3 k3 seen3 (scratched_by v u2 u3 scr (rax_scratched u2 l2.0 g)) same rdx l2.2)))
 
@@ -1233,40 +1241,38 @@ module _ (S : Setting) (ok : IsSetting S) (p : Plan) (access_of : ℕ → Option
   operation_goes : (op : Arithmetic) (kind : IntKind) (n : ℕ) (pre is : List FatStep) (step : FatStep) (to a b : ℕ) (values : Values) (v : View) (y : Stored) (next x z : ℕ) → Operands pre is step to a b values v y next x z n
       → (u : View) (w : Stored) (j : ℕ) → Seen S u w → Loaded v u (worded (needs_words op) kind x) (worded (needs_words op) kind z) → StandAll S.code S.label_at S.entry_at u.processor.rip (operation op kind (Plain (extend_instr kind 0) ∷ put (p.home to) 0 ∷ [])) next
       → Ends S p access_of (whole_of S u w j) (Goal_of n is to op kind x z values v)
-  operation_goes Plus kind n pre is step to a b values v y next x z q u w j seen two l = one_goes Plus _ sum (flags_by Add) kind n pre is step to a b values v y next x z x z adds (plus_is kind x z) q u w j seen two l
-  operation_goes Minus kind n pre is step to a b values v y next x z q u w j seen two l = one_goes Minus _ diff (flags_by Sub) kind n pre is step to a b values v y next x z x z subtracts (minus_is kind x z) q u w j seen two l
-  operation_goes Times kind n pre is step to a b values v y next x z q u w j seen two l = one_goes Times _ (by_words op.Imul) (flags_by op.Imul) kind n pre is step to a b values v y next x z (extended kind x) (extended kind z) multiplies (times_is kind x z) q u w j seen two l
+  operation_goes Add kind n pre is step to a b values v y next x z q u w j seen two l = one_goes Add _ sum (flags_by op.Add) kind n pre is step to a b values v y next x z x z adds (plus_is kind x z) q u w j seen two l
+  operation_goes Sub kind n pre is step to a b values v y next x z q u w j seen two l = one_goes Sub _ diff (flags_by op.Sub) kind n pre is step to a b values v y next x z x z subtracts (minus_is kind x z) q u w j seen two l
+  operation_goes Mul kind n pre is step to a b values v y next x z q u w j seen two l = one_goes Mul _ (by_words op.Imul) (flags_by op.Imul) kind n pre is step to a b values v y next x z (extended kind x) (extended kind z) multiplies (times_is kind x z) q u w j seen two l
   operation_goes BitAnd kind n pre is step to a b values v y next x z q u w j seen two l = one_goes BitAnd _ (by_words op.And) (flags_by op.And) kind n pre is step to a b values v y next x z (extended kind x) (extended kind z) ands (and_is kind x z) q u w j seen two l
   operation_goes BitOr kind n pre is step to a b values v y next x z q u w j seen two l = one_goes BitOr _ (by_words op.Or) (flags_by op.Or) kind n pre is step to a b values v y next x z (extended kind x) (extended kind z) ors (or_is kind x z) q u w j seen two l
   operation_goes BitXor kind n pre is step to a b values v y next x z q u w j seen two l = one_goes BitXor _ (by_words op.Xor) (flags_by op.Xor) kind n pre is step to a b values v y next x z (extended kind x) (extended kind z) xors (xor_is kind x z) q u w j seen two l
-  operation_goes Left kind n pre is step to a b values v y next x z q u w j seen two l =
-      one_goes Left _ (by_shift (shift_width kind) op.Shl) (shift_flags_by (shift_width kind) op.Shl) kind n pre is step to a b values v y next x z (extended kind x) (extended kind z) (shifts_left kind) (left_is kind x z) q u w j seen two l
-  operation_goes Right kind n pre is step to a b values v y next x z q u w j seen two l =
-      one_goes Right _ (by_shift (shift_width kind) (right_operation kind)) (shift_flags_by (shift_width kind) (right_operation kind)) kind n pre is step to a b values v y next x z (extended kind x) (extended kind z) (shifts_right kind) (right_is kind x z) q u w j seen two l
-  operation_goes Over kind n pre is step to a b values v y next x z q u w j seen two l =
+  operation_goes Shl kind n pre is step to a b values v y next x z q u w j seen two l =
+      one_goes Shl _ (by_shift (shift_width kind) op.Shl) (shift_flags_by (shift_width kind) op.Shl) kind n pre is step to a b values v y next x z (extended kind x) (extended kind z) (shifts_left kind) (left_is kind x z) q u w j seen two l
+  operation_goes Shr kind n pre is step to a b values v y next x z q u w j seen two l =
+      one_goes Shr _ (by_shift (shift_width kind) (right_operation kind)) (shift_flags_by (shift_width kind) (right_operation kind)) kind n pre is step to a b values v y next x z (extended kind x) (extended kind z) (shifts_right kind) (right_is kind x z) q u w j seen two l
+  operation_goes Div kind n pre is step to a b values v y next x z q u w j seen two l =
       let rest = Plain (extend_instr kind 0) ∷ put (p.home to) 0 ∷ [] in
-      elim (is_signed kind) as (λ s. is_signed kind ≡ s → StandAll S.code S.label_at S.entry_at u.processor.rip (if s then Plain (Wide 64) ∷ Plain (One 3 64 (in_reg 1)) ∷ rest else Plain (MovImm 64 (reg 2) (pos 0)) ∷ Plain (One 2 64 (in_reg 1)) ∷ rest) next → Ends S p access_of (whole_of S u w j) (Goal_of n is to Over kind x z values v)) [
+      elim (is_signed kind) as (λ s. is_signed kind ≡ s → StandAll S.code S.label_at S.entry_at u.processor.rip (if s then Plain (Wide 64) ∷ Plain (One 3 64 (in_reg 1)) ∷ rest else Plain (MovImm 64 (reg 2) (pos 0)) ∷ Plain (One 2 64 (in_reg 1)) ∷ rest) next → Ends S p access_of (whole_of S u w j) (Goal_of n is to Div kind x z values v)) [
         | true ↦ λ sign l. over_goes _ _ _ _ divides_signed kind n pre is step to a b values v y next x z q (signed_division kind x z sign) u w j seen two l
         | false ↦ λ plain l. over_goes _ _ _ _ divides_plain kind n pre is step to a b values v y next x z q (plain_division kind x z plain) u w j seen two l
       ] refl l
-  operation_goes Rest kind n pre is step to a b values v y next x z q u w j seen two l =
+  operation_goes Rem kind n pre is step to a b values v y next x z q u w j seen two l =
       let rest = Plain (MovTo 64 (reg 2) (in_reg 0)) ∷ Plain (extend_instr kind 0) ∷ put (p.home to) 0 ∷ [] in
-      elim (is_signed kind) as (λ s. is_signed kind ≡ s → StandAll S.code S.label_at S.entry_at u.processor.rip (if s then Plain (Wide 64) ∷ Plain (One 3 64 (in_reg 1)) ∷ rest else Plain (MovImm 64 (reg 2) (pos 0)) ∷ Plain (One 2 64 (in_reg 1)) ∷ rest) next → Ends S p access_of (whole_of S u w j) (Goal_of n is to Rest kind x z values v)) [
+      elim (is_signed kind) as (λ s. is_signed kind ≡ s → StandAll S.code S.label_at S.entry_at u.processor.rip (if s then Plain (Wide 64) ∷ Plain (One 3 64 (in_reg 1)) ∷ rest else Plain (MovImm 64 (reg 2) (pos 0)) ∷ Plain (One 2 64 (in_reg 1)) ∷ rest) next → Ends S p access_of (whole_of S u w j) (Goal_of n is to Rem kind x z values v)) [
         | true ↦ λ sign l. rest_goes _ _ _ _ divides_signed kind n pre is step to a b values v y next x z q (signed_division kind x z sign) u w j seen two l
         | false ↦ λ plain l. rest_goes _ _ _ _ divides_plain kind n pre is step to a b values v y next x z q (plain_division kind x z plain) u w j seen two l
       ] refl l
 
-  -- a place of no operator is stuck
-  arith_by : (n : ℕ) (pre is : List FatStep) (step : FatStep) (to a b : ℕ) (o : Option Arithmetic) (kind : IntKind) (values : Values) (v : View) (y : Stored) (k next x z : ℕ) → Operands pre is step to a b values v y next x z n
-      → StandAll S.code S.label_at S.entry_at v.processor.rip (lower_arith p o kind to a b) next → Ends S p access_of (whole_of S v y k) (Result_of n (and_then (operated to o kind x z (st values v)) (pass symbols is)))
-  arith_by n pre is step to a b (Some op) kind values v y k next x z q l =
+  arith_by : (n : ℕ) (pre is : List FatStep) (step : FatStep) (to a b : ℕ) (op : Arithmetic) (kind : IntKind) (values : Values) (v : View) (y : Stored) (k next x z : ℕ) → Operands pre is step to a b values v y next x z n
+      → StandAll S.code S.label_at S.entry_at v.processor.rip (lower_arith p op kind to a b) next → Ends S p access_of (whole_of S v y k) (Result_of n (and_then (computed to (word_arithmetic op kind x z) (st values v)) (pass symbols is)))
+  arith_by n pre is step to a b op kind values v y k next x z q l =
       load_two_goes (needs_words op) kind n pre is step to a b values v y k next x z (operation op kind (Plain (extend_instr kind 0) ∷ put (p.home to) 0 ∷ [])) _ q l (λ u w j seen two l2. operation_goes op kind n pre is step to a b values v y next x z q u w j seen two l2)
-  arith_by n pre is step to a b None kind values v y k next x z q l = tt
 
-  arith_goes : (n : ℕ) (pre is : List FatStep) (to op a b : ℕ) (kind : IntKind) → StepGoes n pre (s.Arith to op kind a b) is
+  arith_goes : (n : ℕ) (pre is : List FatStep) (to : ℕ) (op : Arithmetic) (a b : ℕ) (kind : IntKind) → StepGoes n pre (s.Arith to op kind a b) is
   arith_goes n pre is to op a b kind rec values v y k e seen h front laid fine le =
       need_number n _ (pass symbols is) (values a) _ (λ x known_a. need_number n _ (pass symbols is) (values b) _ (λ z known_b.
-      arith_by n pre is (s.Arith to op kind a b) to a b (arithmetic_at op) kind values v y k laid.0 x z
+      arith_by n pre is (s.Arith to op kind a b) to a b op kind values v y k laid.0 x z
       (record { rec = rec; parts = e; seen = seen; inside = h; front = front; one = laid.1; later = laid.2; fine = fine.1; left = le; to_named = fine.0.0; a_named = fine.0.1; b_named = fine.0.2; number = fine.0.3; a_known = known_a; b_known = known_b }) laid.1))
 
   -- ---- comparisons
@@ -1274,7 +1280,7 @@ module _ (S : Setting) (ok : IsSetting S) (p : Plan) (access_of : ℕ → Option
   comparison_goes : (op : Comparison) (kind : IntKind) (n : ℕ) (pre is : List FatStep) (step : FatStep) (to a b : ℕ) (values : Values) (v : View) (y : Stored) (next x z : ℕ) → Operands pre is step to a b values v y next x z n
       → (u : View) (w : Stored) (j : ℕ) → Seen S u w → Loaded v u (extended kind x) (extended kind z)
       → StandAll S.code S.label_at S.entry_at u.processor.rip (Plain (AluTo 5 64 (reg 1) (in_reg 0)) ∷ Plain (Set (condition op (is_signed kind)) (in_reg 0)) ∷ Plain (Movzx 8 (reg 0) (in_reg 0)) ∷ put (p.home to) 0 ∷ []) next
-      → Ends S p access_of (whole_of S u w j) (Result_of n (and_then (compared to (Some op) kind x z (st values v)) (pass symbols is)))
+      → Ends S p access_of (whole_of S u w j) (Result_of n (and_then (goes (with_number to (word_compares op kind x z) (st values v))) (pass symbols is)))
   comparison_goes op kind n pre is step to a b values v y next x z q u w j seen two l =
       let l2 = l.2 in
       let l3 = l2.2 in
@@ -1294,16 +1300,15 @@ module _ (S : Setting) (ok : IsSetting S) (p : Plan) (access_of : ℕ → Option
       (λ y2 k2 seen2. thru _ u3 _ (plain_goes S ok u2 y2 k2 l3.0 _ u3.processor (record { seen = seen2; stands = l3.1 }) (record { call = refl; return = refl; service = refl; accesses_none = refl; is_row = widen_row u2.processor l3.0 g t refl; is_next = refl; leaves = with_reg_leaves u2.processor.regs 0 bit rax_free; preserve = refl }))
       (λ y3 k3 seen3. result_goes n pre is step to a b values v y next x z value q u3 y3 k3 seen3 (record { regs = λ r e. r3.regs r e ∙ r2.regs r e ∙ two.scratched.regs r e; bounds = two.scratched.bounds; slots = two.scratched.slots }) two.world has l3.2)))
 
-  compare_by : (n : ℕ) (pre is : List FatStep) (step : FatStep) (to a b : ℕ) (o : Option Comparison) (kind : IntKind) (values : Values) (v : View) (y : Stored) (k next x z : ℕ) → Operands pre is step to a b values v y next x z n
-      → StandAll S.code S.label_at S.entry_at v.processor.rip (lower_compare p o kind to a b) next → Ends S p access_of (whole_of S v y k) (Result_of n (and_then (compared to o kind x z (st values v)) (pass symbols is)))
-  compare_by n pre is step to a b (Some op) kind values v y k next x z q l =
+  compare_by : (n : ℕ) (pre is : List FatStep) (step : FatStep) (to a b : ℕ) (op : Comparison) (kind : IntKind) (values : Values) (v : View) (y : Stored) (k next x z : ℕ) → Operands pre is step to a b values v y next x z n
+      → StandAll S.code S.label_at S.entry_at v.processor.rip (lower_compare p op kind to a b) next → Ends S p access_of (whole_of S v y k) (Result_of n (and_then (goes (with_number to (word_compares op kind x z) (st values v))) (pass symbols is)))
+  compare_by n pre is step to a b op kind values v y k next x z q l =
       load_two_goes true kind n pre is step to a b values v y k next x z (Plain (AluTo 5 64 (reg 1) (in_reg 0)) ∷ Plain (Set (condition op (is_signed kind)) (in_reg 0)) ∷ Plain (Movzx 8 (reg 0) (in_reg 0)) ∷ put (p.home to) 0 ∷ []) _ q l (λ u w j seen two l2. comparison_goes op kind n pre is step to a b values v y next x z q u w j seen two l2)
-  compare_by n pre is step to a b None kind values v y k next x z q l = tt
 
-  compare_step : (n : ℕ) (pre is : List FatStep) (to op a b : ℕ) (kind : IntKind) → StepGoes n pre (s.Compare to op kind a b) is
+  compare_step : (n : ℕ) (pre is : List FatStep) (to : ℕ) (op : Comparison) (a b : ℕ) (kind : IntKind) → StepGoes n pre (s.Compare to op kind a b) is
   compare_step n pre is to op a b kind rec values v y k e seen h front laid fine le =
       need_number n _ (pass symbols is) (values a) _ (λ x known_a. need_number n _ (pass symbols is) (values b) _ (λ z known_b.
-      compare_by n pre is (s.Compare to op kind a b) to a b (comparison_at op) kind values v y k laid.0 x z
+      compare_by n pre is (s.Compare to op kind a b) to a b op kind values v y k laid.0 x z
       (record { rec = rec; parts = e; seen = seen; inside = h; front = front; one = laid.1; later = laid.2; fine = fine.1; left = le; to_named = fine.0.0; a_named = fine.0.1; b_named = fine.0.2; number = fine.0.3; a_known = known_a; b_known = known_b }) laid.1))
 
   -- ---- calls
@@ -1528,20 +1533,20 @@ module _ (S : Setting) (ok : IsSetting S) (p : Plan) (access_of : ℕ → Option
       (call_results n pre is step to None rec values u z j at next e seen (at_call (length pre) values v u slots same_slots h) front one later fine (subst (λ (r : World). r.turns ≤ n) (sym same) le) f tt l (record { number = b; bounds = full_bounds }) same_q.0 (λ some. absurd some)))
   answer_goes n pre is step to rec values v w out at next n1 e h same_slots same fits front one later fine le f slots l _ _ went same_q ok_q = absurd same_q
 
-  service_step : (n : ℕ) (pre is : List FatStep) (number : ℕ) (arg to : Option ℕ) → StepGoes n pre (s.Service number arg to) is
-  service_step n pre is number arg to rec values v y k e seen h front laid fine le =
+  service_step : (n : ℕ) (pre is : List FatStep) (service : CService) (arg to : Option ℕ) → StepGoes n pre (s.Service service arg to) is
+  service_step n pre is service arg to rec values v y k e seen h front laid fine le =
       let f = fine.0 in
       let l = laid.1 in
       let l2 = l.2 in
       let l3 = l2.2 in
-      word_goes n (pass symbols is) (length pre) arg values v y k l.0 _ f.1 h seen l.1 (λ m z j seen1.
+      word_goes n (pass symbols is) (length pre) arg values v y k l.0 _ f.0 h seen l.1 (λ m z j seen1.
       let v1 = with_scratch v l.0 7 m in
-      let v2 = with_scratch v1 l2.0 0 (service_number number) in
-      thru _ v2 _ (plain_goes S ok v1 z j l2.0 _ v2.processor (record { seen = seen1; stands = l2.1 }) (record { call = refl; return = refl; service = refl; accesses_none = refl; is_row = number_row v1.processor l2.0 number f.0; is_next = refl; leaves = with_reg_leaves v1.processor.regs 0 (service_number number) rax_free; preserve = refl }))
+      let v2 = with_scratch v1 l2.0 0 (service_number service) in
+      thru _ v2 _ (plain_goes S ok v1 z j l2.0 _ v2.processor (record { seen = seen1; stands = l2.1 }) (record { call = refl; return = refl; service = refl; accesses_none = refl; is_row = number_row v1.processor l2.0 service; is_next = refl; leaves = with_reg_leaves v1.processor.regs 0 (service_number service) rax_free; preserve = refl }))
       (λ z2 j2 seen2.
-      let served_one = serve S ok v2 z2 j2 l3.0 (c_service number) (record { seen = seen2; stands = l3.1 }) (service_is number f.0) (of_c number f.0) in
-      answer_goes n pre is (s.Service number arg to) to rec values v v2 (whole_of S v2 z2 j2) v.processor.rip laid.0 l3.0 e h refl refl seen.memory.guest_fits front laid.1 laid.2 fine.1 le f.2 f.3 l3.2 served_one.0 _ served_one.1 served_one.2
-      (served_fits v.world.guest seen.memory.guest_fits (c_service number) v.world.bytes (λ from n. refusal false n from) m 0 0 (omega arith))))
+      let served_one = serve S ok v2 z2 j2 l3.0 (c_service service) (record { seen = seen2; stands = l3.1 }) (service_is service) (of_c service) in
+      answer_goes n pre is (s.Service service arg to) to rec values v v2 (whole_of S v2 z2 j2) v.processor.rip laid.0 l3.0 e h refl refl seen.memory.guest_fits front laid.1 laid.2 fine.1 le f.1 f.2 l3.2 served_one.0 _ served_one.1 served_one.2
+      (served_fits v.world.guest seen.memory.guest_fits (c_service service) v.world.bytes (λ from n. refusal false n from) m 0 0 (omega arith))))
 
   -- ---- bounds that are made
 
@@ -1734,7 +1739,7 @@ module _ (S : Setting) (ok : IsSetting S) (p : Plan) (access_of : ℕ → Option
   core n earlier all (suc len) (s.Jump x ∷ is) pre l = jump_step n len pre is x (omega arith) (λ more rest few. core n earlier all len rest more few) earlier all
   core n earlier all (suc len) (s.JumpIf from x ∷ is) pre l = jump_if_step n len pre is from x (omega arith) (λ more rest few. core n earlier all len rest more few) earlier all
   core n earlier all (suc len) (s.Call symbol args to bounds ∷ is) pre l = call_goes n pre is symbol args to bounds (core n earlier all len is (pre ++ s.Call symbol args to bounds ∷ []) (omega arith))
-  core n earlier all (suc len) (s.Service number arg to ∷ is) pre l = service_step n pre is number arg to (core n earlier all len is (pre ++ s.Service number arg to ∷ []) (omega arith))
+  core n earlier all (suc len) (s.Service service arg to ∷ is) pre l = service_step n pre is service arg to (core n earlier all len is (pre ++ s.Service service arg to ∷ []) (omega arith))
   core n earlier all (suc len) (s.Give (Some from) None ∷ is) pre l = give_number n pre is from
   core n earlier all (suc len) (s.Give (Some from) (Some bounds) ∷ is) pre l = give_pointer n pre is from bounds
   core n earlier all (suc len) (s.Give None None ∷ is) pre l = give_none n pre is

@@ -9,9 +9,11 @@ use Rattle.mx_base.proofs.NumbersLemmas.{as_signed_low, as_signed_high}
 use Rattle.mx_base.specs.declared.numbers.IntKind.{IntKind}
 use Rattle.mx_base.specs.declared.numbers.IntKind.TheVariants.{I8, U8, I16, U16, I32, U32, I64, U64}
 use Rattle.mx_base.specs.Numbers.{residue, as_signed, number_of, value_of, wrapped, word_of, extended}
-use Rattle.mx_base.specs.Operators.{Plus, Minus, word_arithmetic, arithmetic}
+use Rattle.mx_base.specs.declared.operators.Arithmetic.TheVariants.{Add, Sub}
+use Rattle.mx_base.specs.Operators.{word_arithmetic, arithmetic}
 use Rattle.x86_forms.specs.declared.instr.Instr.TheVariants.{AluTo, Imul, One, Wide, ShiftCl, Movzx, Set}
-use Rattle.x86_forms.specs.Arithmetic.{Flags, Operation, Cmp, holds, Add, Sub, Or, And, Xor, Shl, Imul as Product, no_flags, low, flags_after, result_of, divided, divided_signed}
+use Rattle.x86_forms.specs.Arithmetic as machine
+use Rattle.x86_forms.specs.Arithmetic.{Flags, Operation, Cmp, holds, Or, And, Xor, Imul as Product, no_flags, low, flags_after, result_of, divided, divided_signed}
 use Rattle.x86_forms.specs.Examples.{reg, in_reg}
 use Rattle.x86_forms.specs.Processor.{Processor, part_written}
 use Rattle.x86_forms.specs.Requests.{Ends}
@@ -36,17 +38,17 @@ diff a b = (a + 2 ^ 64 - b % 2 ^ 64) % 2 ^ 64
 abbrev pub flags_by : Operation → Processor → Flags
 flags_by op c = flags_after op 64 (low 64 (c.regs 0)) (low 64 (c.regs 1)) c.flags
 
-pub add_row : (c : Processor) (next : ℕ) → row (AluTo 0 64 (reg 1) (in_reg 0)) next c ≡ Ends (after_word sum (flags_by Add) c next)
+pub add_row : (c : Processor) (next : ℕ) → row (AluTo 0 64 (reg 1) (in_reg 0)) next c ≡ Ends (after_word sum (flags_by machine.Add) c next)
 unfolding row result_of part_written
 add_row c next =
     let e : (c.regs 0 % 2 ^ 64 + c.regs 1 % 2 ^ 64) % 2 ^ 64 % 2 ^ 64 ≡ sum (c.regs 0) (c.regs 1) = omega arith in
-    ap (λ (n : ℕ). Ends (record (with_word (at_next c next) 0 n) { flags = flags_by Add c })) e
+    ap (λ (n : ℕ). Ends (record (with_word (at_next c next) 0 n) { flags = flags_by machine.Add c })) e
 
-pub sub_row : (c : Processor) (next : ℕ) → row (AluTo 3 64 (reg 1) (in_reg 0)) next c ≡ Ends (after_word diff (flags_by Sub) c next)
+pub sub_row : (c : Processor) (next : ℕ) → row (AluTo 3 64 (reg 1) (in_reg 0)) next c ≡ Ends (after_word diff (flags_by machine.Sub) c next)
 unfolding row result_of part_written
 sub_row c next =
     let e : (c.regs 0 % 2 ^ 64 + (2 ^ 64 - c.regs 1 % 2 ^ 64)) % 2 ^ 64 % 2 ^ 64 ≡ diff (c.regs 0) (c.regs 1) = omega arith in
-    ap (λ (n : ℕ). Ends (record (with_word (at_next c next) 0 n) { flags = flags_by Sub c })) e
+    ap (λ (n : ℕ). Ends (record (with_word (at_next c next) 0 n) { flags = flags_by machine.Sub c })) e
 
 abbrev pub shift_flags_by : ℕ → Operation → Processor → Flags
 shift_flags_by w op c = flags_after op w (low w (c.regs 0)) (low 8 (c.regs 1)) c.flags
@@ -67,9 +69,9 @@ pub imul_row : (c : Processor) (next : ℕ) → row (Imul 64 (reg 0) (in_reg 1))
 unfolding row part_written
 imul_row c next = refl
 
-pub left_row : (kind : IntKind) (c : Processor) (next : ℕ) → row (ShiftCl 0 (shift_width kind) (in_reg 0)) next c ≡ Ends (after_word (by_shift (shift_width kind) Shl) (shift_flags_by (shift_width kind) Shl) c next)
+pub left_row : (kind : IntKind) (c : Processor) (next : ℕ) → row (ShiftCl 0 (shift_width kind) (in_reg 0)) next c ≡ Ends (after_word (by_shift (shift_width kind) machine.Shl) (shift_flags_by (shift_width kind) machine.Shl) c next)
 unfolding row part_written
-left_row kind c next = elim (is_narrow kind) as (λ b. row (ShiftCl 0 (cond b 32 64) (in_reg 0)) next c ≡ Ends (after_word (by_shift (cond b 32 64) Shl) (shift_flags_by (cond b 32 64) Shl) c next)) [ true ↦ refl | false ↦ refl ]
+left_row kind c next = elim (is_narrow kind) as (λ b. row (ShiftCl 0 (cond b 32 64) (in_reg 0)) next c ≡ Ends (after_word (by_shift (cond b 32 64) machine.Shl) (shift_flags_by (cond b 32 64) machine.Shl) c next)) [ true ↦ refl | false ↦ refl ]
 
 pub right_row : (kind : IntKind) (c : Processor) (next : ℕ) → row (ShiftCl (right_shift kind) (shift_width kind) (in_reg 0)) next c ≡ Ends (after_word (by_shift (shift_width kind) (right_operation kind)) (shift_flags_by (shift_width kind) (right_operation kind)) c next)
 unfolding row part_written
@@ -215,7 +217,7 @@ sum_64 a b small_a small_b = elim (cases_lt a 9223372036854775808) [
   ]
 ]
 
-pub plus_is : (kind : IntKind) (x y : ℕ) → word_arithmetic Plus kind x y ≡ Some (extended kind ((x + y) % 2 ^ 64))
+pub plus_is : (kind : IntKind) (x y : ℕ) → word_arithmetic Add kind x y ≡ Some (extended kind ((x + y) % 2 ^ 64))
 unfolding word_arithmetic arithmetic extended wrapped value_of number_of
 plus_is I8 x y = ap (λ (r : ℕ). let o : Option ℕ = Some (word_of (as_signed 256 r)) in o) (sum_8 (x % 256) (y % 256) (omega arith) (omega arith) ∙ (let e : (x % 256 + y % 256) % 256 ≡ (x + y) % 18446744073709551616 % 256 = omega arith in e))
 plus_is U8 x y = ap (λ (r : ℕ). let o : Option ℕ = Some (word_of (pos r)) in o) (residue_pos 256 (x % 256 + y % 256) ∙ (let e : (x % 256 + y % 256) % 256 ≡ (x + y) % 18446744073709551616 % 256 = omega arith in e))
@@ -279,7 +281,7 @@ diff_64 a b small_a small_b = elim (cases_lt a 9223372036854775808) [
   ]
 ]
 
-pub minus_is : (kind : IntKind) (x y : ℕ) → word_arithmetic Minus kind x y ≡ Some (extended kind (diff x y))
+pub minus_is : (kind : IntKind) (x y : ℕ) → word_arithmetic Sub kind x y ≡ Some (extended kind (diff x y))
 unfolding word_arithmetic arithmetic extended wrapped value_of number_of
 minus_is I8 x y = ap (λ (r : ℕ). let o : Option ℕ = Some (word_of (as_signed 256 r)) in o) (diff_8 (x % 256) (y % 256) (omega arith) (omega arith) ∙ (let e : (x % 256 + 256 - y % 256) % 256 ≡ (x + 18446744073709551616 - y % 18446744073709551616) % 18446744073709551616 % 256 = omega arith in e))
 minus_is U8 x y = ap (λ (r : ℕ). let o : Option ℕ = Some (word_of (pos r)) in o) (once_8 (pos (x % 256) -ℤ pos (y % 256)) (x % 256 + 256 - y % 256) (omega (arith, ints)) (omega arith) ∙ (let e : (x % 256 + 256 - y % 256) % 256 ≡ (x + 18446744073709551616 - y % 18446744073709551616) % 18446744073709551616 % 256 = omega arith in e))

@@ -12,9 +12,13 @@ use Rattle.std.proofs.lemmas.Nat.{mul-mod_first, mul-mod_second, div-add-mod'}
 use Rattle.mx_base.specs.declared.numbers.IntKind.{IntKind}
 use Rattle.mx_base.specs.declared.numbers.IntKind.TheVariants.{I8, U8, I16, U16, I32, U32, I64, U64}
 use Rattle.mx_base.specs.Numbers.{modulus, is_signed, residue, number_of, value_of, wrapped, word_of, extended}
-use Rattle.mx_base.specs.Operators.{Over, Rest, Left, Right, count_modulus, is_long, least_long, has_no_quotient, arithmetic, word_arithmetic, Comparison, Below, AtMost, Above, AtLeast, Equal, Differs, compares, word_compares}
+use Rattle.mx_base.specs.declared.operators.Arithmetic.TheVariants.{Div, Rem, Shl, Shr}
+use Rattle.mx_base.specs.declared.operators.Comparison.{Comparison}
+use Rattle.mx_base.specs.declared.operators.Comparison.TheVariants.{Less, LessOrEqual, Greater, GreaterOrEqual, Equal, NotEqual}
+use Rattle.mx_base.specs.Operators.{count_modulus, is_long, least_long, has_no_quotient, arithmetic, word_arithmetic, compares, word_compares}
 use Rattle.mx_base.proofs.NumbersLemmas.{as_signed_low, as_signed_high, as_signed_within, residue-as_signed}
-use Rattle.x86_forms.specs.Arithmetic.{Flags, Operation, Cmp, Shl, Shr, Sar, low, signed, bits_of, is_negative, holds_signed, holds, result_of, flags_after, divided, divided_signed}
+use Rattle.x86_forms.specs.Arithmetic as machine
+use Rattle.x86_forms.specs.Arithmetic.{Flags, Operation, Cmp, low, signed, bits_of, is_negative, holds_signed, holds, result_of, flags_after, divided, divided_signed}
 use Rattle.x86_forms.proofs.Conditions.{compare_64}
 use Rattle.step_code.specs.Steps.{is_narrow, shift_width, condition}
 use Rattle.code_laws.proofs.Words.{words, residue_twice, residue_32, residue_narrow, mod_twice, mod_narrow, product, word_small, word_is, signed_back, signed_back_32, plain_back, narrow_small, by_residue, by_shift}
@@ -53,21 +57,21 @@ scaled a p = product a (pos p) ∙ ap (λ (n : ℕ). (residue words a * n) % wor
 abbrev counted : ℕ → ℤ → ℕ
 counted w b = 2 ^ residue w b
 
-left_64 : (kind : IntKind) (a b : ℤ) → residue words a < words → residue (modulus kind) (a *ℤ pos (counted 64 b)) ≡ by_shift 64 Shl (residue words a) (residue words b) % modulus kind
+left_64 : (kind : IntKind) (a b : ℤ) → residue words a < words → residue (modulus kind) (a *ℤ pos (counted 64 b)) ≡ by_shift 64 machine.Shl (residue words a) (residue words b) % modulus kind
 unfolding result_of
 left_64 kind a b small =
     let x = residue words a in
     let p = counted 64 b in
-    let by : by_shift 64 Shl x (residue words b) ≡ (x * p) % words % words = λ i. (word_is x small i * 2 ^ count_64 b i) % words % words in
+    let by : by_shift 64 machine.Shl x (residue words b) ≡ (x * p) % words % words = λ i. (word_is x small i * 2 ^ count_64 b i) % words % words in
     let once : (x * p) % words % words ≡ (x * p) % words = omega arith in
     sym (residue_twice kind (a *ℤ pos p)) ∙ ap (λ (n : ℕ). n % modulus kind) (scaled a p ∙ sym once ∙ sym by)
 
-left_32 : (kind : IntKind) (a b : ℤ) → is_narrow kind ≡ true → residue (modulus kind) (a *ℤ pos (counted 32 b)) ≡ by_shift 32 Shl (residue words a) (residue words b) % modulus kind
+left_32 : (kind : IntKind) (a b : ℤ) → is_narrow kind ≡ true → residue (modulus kind) (a *ℤ pos (counted 32 b)) ≡ by_shift 32 machine.Shl (residue words a) (residue words b) % modulus kind
 unfolding result_of
 left_32 kind a b narrow =
     let x = residue words a in
     let p = counted 32 b in
-    let by : by_shift 32 Shl x (residue words b) ≡ (x % 2 ^ 32 * p) % 2 ^ 32 % 2 ^ 32 = λ i. (x % 2 ^ 32 * 2 ^ count_32 b i) % 2 ^ 32 % 2 ^ 32 in
+    let by : by_shift 32 machine.Shl x (residue words b) ≡ (x % 2 ^ 32 * p) % 2 ^ 32 % 2 ^ 32 = λ i. (x % 2 ^ 32 * 2 ^ count_32 b i) % 2 ^ 32 % 2 ^ 32 in
     let once : (x % 2 ^ 32 * p) % 2 ^ 32 % 2 ^ 32 ≡ (x * p) % 2 ^ 32 = ap (λ (n : ℕ). n % 2 ^ 32) (mul-mod_first x p (2 ^ 32)) ∙ (let e : (x * p) % 2 ^ 32 % 2 ^ 32 ≡ (x * p) % 2 ^ 32 = omega arith in e) in
     let half : residue 0x1_0000_0000 (a *ℤ pos p) ≡ (x * p) % 2 ^ 32 = sym (residue_32 (a *ℤ pos p)) ∙ ap (λ (n : ℕ). n % 2 ^ 32) (scaled a p) ∙ (let e : (x * p) % words % 2 ^ 32 ≡ (x * p) % 2 ^ 32 = omega arith in e) in
     sym (residue_narrow kind (a *ℤ pos p) narrow) ∙ ap (λ (n : ℕ). n % modulus kind) (half ∙ sym once ∙ sym by)
@@ -79,34 +83,34 @@ by_width kind P narrow wide = elim (is_narrow kind) as (λ b. is_narrow kind ≡
   | false ↦ wide
 ] refl
 
-pub left_is : (kind : IntKind) (x z : ℕ) → word_arithmetic Left kind x z ≡ Some (extended kind (by_shift (shift_width kind) Shl (extended kind x) (extended kind z)))
+pub left_is : (kind : IntKind) (x z : ℕ) → word_arithmetic Shl kind x z ≡ Some (extended kind (by_shift (shift_width kind) machine.Shl (extended kind x) (extended kind z)))
 unfolding extended word_of
 left_is kind x z =
     let a = value_of kind x in
     let b = value_of kind z in
-    by_residue Left kind x z _ (a *ℤ pos (counted (count_modulus kind) b)) refl
+    by_residue Shl kind x z _ (a *ℤ pos (counted (count_modulus kind) b)) refl
     (ap (λ (w : ℕ). residue (modulus kind) (a *ℤ pos (counted w b))) (count_of_kind kind)
-    ∙ by_width kind (λ w. residue (modulus kind) (a *ℤ pos (counted w b)) ≡ by_shift w Shl (extended kind x) (extended kind z) % modulus kind)
+    ∙ by_width kind (λ w. residue (modulus kind) (a *ℤ pos (counted w b)) ≡ by_shift w machine.Shl (extended kind x) (extended kind z) % modulus kind)
     (λ narrow. left_32 kind a b narrow) (λ wide. left_64 kind a b (word_small kind x)))
 
 -- the operation of a right shift
 abbrev pub right_operation : IntKind → Operation
-right_operation kind = if is_signed kind then Sar else Shr
+right_operation kind = if is_signed kind then machine.Sar else machine.Shr
 
 right_signed : (kind : IntKind) (x : ℕ) (b : ℤ) → is_signed kind ≡ true
-    → residue (modulus kind) (int_shr (value_of kind x) (residue (shift_width kind) b)) ≡ by_shift (shift_width kind) Sar (extended kind x) (residue words b) % modulus kind
+    → residue (modulus kind) (int_shr (value_of kind x) (residue (shift_width kind) b)) ≡ by_shift (shift_width kind) machine.Sar (extended kind x) (residue words b) % modulus kind
 unfolding result_of
 right_signed kind x b sign =
     let a = value_of kind x in
-    by_width kind (λ w. residue (modulus kind) (int_shr a (residue w b)) ≡ by_shift w Sar (extended kind x) (residue words b) % modulus kind)
+    by_width kind (λ w. residue (modulus kind) (int_shr a (residue w b)) ≡ by_shift w machine.Sar (extended kind x) (residue words b) % modulus kind)
     (λ narrow.
     let n = int_shr a (residue 32 b) in
-    let by : by_shift 32 Sar (extended kind x) (residue words b) ≡ residue (2 ^ 32) n % 2 ^ 32 = λ i. residue (2 ^ 32) (int_shr (signed_back_32 kind x sign narrow i) (count_32 b i)) % 2 ^ 32 in
+    let by : by_shift 32 machine.Sar (extended kind x) (residue words b) ≡ residue (2 ^ 32) n % 2 ^ 32 = λ i. residue (2 ^ 32) (int_shr (signed_back_32 kind x sign narrow i) (count_32 b i)) % 2 ^ 32 in
     sym (residue_narrow kind n narrow) ∙ sym (mod_narrow kind (residue (2 ^ 32) n) narrow) ∙ ap (λ (m : ℕ). m % modulus kind) (sym by))
     (λ wide.
     let n = int_shr a (residue 64 b) in
     let back : signed 64 (low 64 (extended kind x)) ≡ a = ap (signed 64) (word_is (extended kind x) (word_small kind x)) ∙ signed_back kind x sign in
-    let by : by_shift 64 Sar (extended kind x) (residue words b) ≡ residue words n % words = λ i. residue words (int_shr (back i) (count_64 b i)) % words in
+    let by : by_shift 64 machine.Sar (extended kind x) (residue words b) ≡ residue words n % words = λ i. residue words (int_shr (back i) (count_64 b i)) % words in
     sym (residue_twice kind n) ∙ sym (mod_twice kind (residue words n)) ∙ ap (λ (m : ℕ). m % modulus kind) (sym by))
 
 residue_plain : (kind : IntKind) (n : ℕ) → residue (modulus kind) (pos n) ≡ n % modulus kind
@@ -114,33 +118,33 @@ unfolding residue
 residue_plain kind n = refl
 
 right_plain : (kind : IntKind) (x : ℕ) (b : ℤ) → is_signed kind ≡ false
-    → residue (modulus kind) (int_shr (value_of kind x) (residue (shift_width kind) b)) ≡ by_shift (shift_width kind) Shr (extended kind x) (residue words b) % modulus kind
+    → residue (modulus kind) (int_shr (value_of kind x) (residue (shift_width kind) b)) ≡ by_shift (shift_width kind) machine.Shr (extended kind x) (residue words b) % modulus kind
 unfolding result_of
 right_plain kind x b plain =
     let g = extended kind x in
-    by_width kind (λ w. residue (modulus kind) (int_shr (value_of kind x) (residue w b)) ≡ by_shift w Shr g (residue words b) % modulus kind)
+    by_width kind (λ w. residue (modulus kind) (int_shr (value_of kind x) (residue w b)) ≡ by_shift w machine.Shr g (residue words b) % modulus kind)
     (λ narrow.
     let p = counted 32 b in
     let small = narrow_small kind x plain narrow in
     let fits : g % 2 ^ 32 ≡ g = omega arith in
-    let by : by_shift 32 Shr g (residue words b) ≡ g / p % 2 ^ 32 = λ i. fits i / 2 ^ count_32 b i % 2 ^ 32 in
+    let by : by_shift 32 machine.Shr g (residue words b) ≡ g / p % 2 ^ 32 = λ i. fits i / 2 ^ count_32 b i % 2 ^ 32 in
     ap (λ (n : ℤ). residue (modulus kind) (int_shr n (residue 32 b))) (plain_back kind x plain) ∙ residue_plain kind (g / p) ∙ sym (mod_narrow kind (g / p) narrow) ∙ ap (λ (m : ℕ). m % modulus kind) (sym by))
     (λ wide.
     let p = counted 64 b in
-    let by : by_shift 64 Shr g (residue words b) ≡ g / p % words = λ i. word_is g (word_small kind x) i / 2 ^ count_64 b i % words in
+    let by : by_shift 64 machine.Shr g (residue words b) ≡ g / p % words = λ i. word_is g (word_small kind x) i / 2 ^ count_64 b i % words in
     ap (λ (n : ℤ). residue (modulus kind) (int_shr n (residue 64 b))) (plain_back kind x plain) ∙ residue_plain kind (g / p) ∙ sym (mod_twice kind (g / p)) ∙ ap (λ (m : ℕ). m % modulus kind) (sym by))
 
 right_by_sign : (kind : IntKind) (x z : ℕ) (s : Bool) → is_signed kind ≡ s
-    → residue (modulus kind) (int_shr (value_of kind x) (residue (shift_width kind) (value_of kind z))) ≡ by_shift (shift_width kind) (cond s Sar Shr) (extended kind x) (extended kind z) % modulus kind
+    → residue (modulus kind) (int_shr (value_of kind x) (residue (shift_width kind) (value_of kind z))) ≡ by_shift (shift_width kind) (cond s machine.Sar machine.Shr) (extended kind x) (extended kind z) % modulus kind
 unfolding extended word_of
 right_by_sign kind x z true sign = right_signed kind x (value_of kind z) sign
 right_by_sign kind x z false plain = right_plain kind x (value_of kind z) plain
 
-pub right_is : (kind : IntKind) (x z : ℕ) → word_arithmetic Right kind x z ≡ Some (extended kind (by_shift (shift_width kind) (right_operation kind) (extended kind x) (extended kind z)))
+pub right_is : (kind : IntKind) (x z : ℕ) → word_arithmetic Shr kind x z ≡ Some (extended kind (by_shift (shift_width kind) (right_operation kind) (extended kind x) (extended kind z)))
 right_is kind x z =
     let a = value_of kind x in
     let b = value_of kind z in
-    by_residue Right kind x z _ (int_shr a (residue (count_modulus kind) b)) refl
+    by_residue Shr kind x z _ (int_shr a (residue (count_modulus kind) b)) refl
     (ap (λ (w : ℕ). residue (modulus kind) (int_shr a (residue w b))) (count_of_kind kind) ∙ right_by_sign kind x z (is_signed kind) refl)
 
 -- ---- division of numbers with a sign
@@ -220,11 +224,11 @@ by_test_rest true q r kind = refl
 by_test_rest false q r kind = ap (λ (n : ℕ). let o : Option ℕ = Some (word_of (number_of kind n)) in o) (sym (residue_twice kind r))
 
 -- what C's division and rest make of it
-pub over_by : (kind : IntKind) (x z : ℕ) → word_arithmetic Over kind x z ≡ option_map (λ (q : ℕ × ℕ). extended kind q.0) (quotient_of kind (value_of kind x) (value_of kind z))
+pub over_by : (kind : IntKind) (x z : ℕ) → word_arithmetic Div kind x z ≡ option_map (λ (q : ℕ × ℕ). extended kind q.0) (quotient_of kind (value_of kind x) (value_of kind z))
 unfolding word_arithmetic arithmetic wrapped extended
 over_by kind x z = by_test (has_no_quotient kind (value_of kind x) (value_of kind z)) (int_div (value_of kind x) (value_of kind z)) (int_rem (value_of kind x) (value_of kind z)) kind
 
-pub rest_by : (kind : IntKind) (x z : ℕ) → word_arithmetic Rest kind x z ≡ option_map (λ (q : ℕ × ℕ). extended kind q.1) (quotient_of kind (value_of kind x) (value_of kind z))
+pub rest_by : (kind : IntKind) (x z : ℕ) → word_arithmetic Rem kind x z ≡ option_map (λ (q : ℕ × ℕ). extended kind q.1) (quotient_of kind (value_of kind x) (value_of kind z))
 unfolding word_arithmetic arithmetic wrapped extended
 rest_by kind x z = by_test_rest (has_no_quotient kind (value_of kind x) (value_of kind z)) (int_div (value_of kind x) (value_of kind z)) (int_rem (value_of kind x) (value_of kind z)) kind
 
@@ -379,12 +383,12 @@ compared_by g h before = flags_after Cmp 64 g h before
 
 signed_compares : (op : Comparison) (g h : ℕ) (before : Flags) → g < words → h < words → compares op (signed 64 g) (signed 64 h) ≡ holds (condition op true) (compared_by g h before)
 unfolding compares
-signed_compares Below g h before p q = let c = compare_64 g h before p q in same_tests _ _ (λ t. c.less.1 (is_less _ _ t)) (λ t. less_is _ _ (c.less.0 t))
-signed_compares AtMost g h before p q = let c = compare_64 g h before p q in same_tests _ _ (λ t. c.not_greater.1 (is_most _ _ t)) (λ t. most_is _ _ (c.not_greater.0 t))
-signed_compares Above g h before p q = let c = compare_64 g h before p q in same_tests _ _ (λ t. c.greater.1 (is_less _ _ t)) (λ t. less_is _ _ (c.greater.0 t))
-signed_compares AtLeast g h before p q = let c = compare_64 g h before p q in same_tests _ _ (λ t. c.not_less.1 (is_most _ _ t)) (λ t. most_is _ _ (c.not_less.0 t))
+signed_compares Less g h before p q = let c = compare_64 g h before p q in same_tests _ _ (λ t. c.less.1 (is_less _ _ t)) (λ t. less_is _ _ (c.less.0 t))
+signed_compares LessOrEqual g h before p q = let c = compare_64 g h before p q in same_tests _ _ (λ t. c.not_greater.1 (is_most _ _ t)) (λ t. most_is _ _ (c.not_greater.0 t))
+signed_compares Greater g h before p q = let c = compare_64 g h before p q in same_tests _ _ (λ t. c.greater.1 (is_less _ _ t)) (λ t. less_is _ _ (c.greater.0 t))
+signed_compares GreaterOrEqual g h before p q = let c = compare_64 g h before p q in same_tests _ _ (λ t. c.not_less.1 (is_most _ _ t)) (λ t. most_is _ _ (c.not_less.0 t))
 signed_compares Equal g h before p q = let c = compare_64 g h before p q in same_tests _ _ (λ t. c.equal.1 (signed_same g h p q (int_eq_is _ _ t))) (λ t. is_int_eq _ _ (ap (signed 64) (c.equal.0 t)))
-signed_compares Differs g h before p q = let c = compare_64 g h before p q in
+signed_compares NotEqual g h before p q = let c = compare_64 g h before p q in
     same_tests _ _ (λ t. c.unequal.1 (λ e. is_differs (int_eq (signed 64 g) (signed 64 h)) t (is_int_eq _ _ (ap (signed 64) e)))) (λ t. differs_is (int_eq (signed 64 g) (signed 64 h)) (λ e. c.unequal.0 t (signed_same g h p q (int_eq_is _ _ e))))
 
 pos_less : (g h : ℕ) → g < h → pos g <ℤ pos h
@@ -401,12 +405,12 @@ most_pos g h l = omega (arith, ints)
 
 plain_compares : (op : Comparison) (g h : ℕ) (before : Flags) → g < words → h < words → compares op (pos g) (pos h) ≡ holds (condition op false) (compared_by g h before)
 unfolding compares
-plain_compares Below g h before p q = let c = compare_64 g h before p q in same_tests _ _ (λ t. c.below.1 (less_pos g h (is_less _ _ t))) (λ t. less_is _ _ (pos_less g h (c.below.0 t)))
-plain_compares AtMost g h before p q = let c = compare_64 g h before p q in same_tests _ _ (λ t. c.at_most.1 (most_pos g h (is_most _ _ t))) (λ t. most_is _ _ (pos_most g h (c.at_most.0 t)))
-plain_compares Above g h before p q = let c = compare_64 g h before p q in same_tests _ _ (λ t. c.above.1 (less_pos h g (is_less _ _ t))) (λ t. less_is _ _ (pos_less h g (c.above.0 t)))
-plain_compares AtLeast g h before p q = let c = compare_64 g h before p q in same_tests _ _ (λ t. c.at_least.1 (most_pos h g (is_most _ _ t))) (λ t. most_is _ _ (pos_most h g (c.at_least.0 t)))
+plain_compares Less g h before p q = let c = compare_64 g h before p q in same_tests _ _ (λ t. c.below.1 (less_pos g h (is_less _ _ t))) (λ t. less_is _ _ (pos_less g h (c.below.0 t)))
+plain_compares LessOrEqual g h before p q = let c = compare_64 g h before p q in same_tests _ _ (λ t. c.at_most.1 (most_pos g h (is_most _ _ t))) (λ t. most_is _ _ (pos_most g h (c.at_most.0 t)))
+plain_compares Greater g h before p q = let c = compare_64 g h before p q in same_tests _ _ (λ t. c.above.1 (less_pos h g (is_less _ _ t))) (λ t. less_is _ _ (pos_less h g (c.above.0 t)))
+plain_compares GreaterOrEqual g h before p q = let c = compare_64 g h before p q in same_tests _ _ (λ t. c.at_least.1 (most_pos h g (is_most _ _ t))) (λ t. most_is _ _ (pos_most h g (c.at_least.0 t)))
 plain_compares Equal g h before p q = let c = compare_64 g h before p q in same_tests _ _ (λ t. c.equal.1 (pos_same g h (int_eq_is _ _ t))) (λ t. is_int_eq _ _ (ap pos (c.equal.0 t)))
-plain_compares Differs g h before p q = let c = compare_64 g h before p q in
+plain_compares NotEqual g h before p q = let c = compare_64 g h before p q in
     same_tests _ _ (λ t. c.unequal.1 (λ e. is_differs (int_eq (pos g) (pos h)) t (is_int_eq _ _ (ap pos e)))) (λ t. differs_is (int_eq (pos g) (pos h)) (λ e. c.unequal.0 t (pos_same g h (int_eq_is _ _ e))))
 
 compares_by : (op : Comparison) (kind : IntKind) (x z : ℕ) (before : Flags) (s : Bool) → is_signed kind ≡ s

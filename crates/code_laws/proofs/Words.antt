@@ -8,7 +8,9 @@ use Rattle.std.proofs.lemmas.Nat.{mul-mod, mul-mod_first, mul-mod_second}
 use Rattle.mx_base.specs.declared.numbers.IntKind.{IntKind}
 use Rattle.mx_base.specs.declared.numbers.IntKind.TheVariants.{I8, U8, I16, U16, I32, U32, I64, U64}
 use Rattle.mx_base.specs.Numbers.{modulus, is_signed, residue, as_signed, number_of, value_of, wrapped, word_of, extended}
-use Rattle.mx_base.specs.Operators.{Arithmetic, Times, BitAnd, BitXor, BitOr, whole, arithmetic, word_arithmetic}
+use Rattle.mx_base.specs.declared.operators.Arithmetic.{Arithmetic}
+use Rattle.mx_base.specs.declared.operators.Arithmetic.TheVariants.{Mul, BitAnd, BitXor, BitOr}
+use Rattle.mx_base.specs.Operators.{whole, arithmetic, word_arithmetic}
 use Rattle.mx_base.proofs.NumbersLemmas.{as_signed_low, as_signed_high, residue-lt, residue-as_signed}
 use Rattle.x86_forms.specs.Arithmetic.{Operation, Or, And, Xor, Imul, low, signed, result_of}
 use Rattle.step_code.specs.Steps.{is_narrow}
@@ -248,12 +250,12 @@ imul_is x z small_x small_z =
     let f : (x * z) % words % words ≡ (x * z) % words = omega arith in
     e ∙ ap (λ (n : ℕ). n % words) p ∙ f
 
-pub times_is : (kind : IntKind) (x z : ℕ) → word_arithmetic Times kind x z ≡ Some (extended kind (by_words Imul (extended kind x) (extended kind z)))
+pub times_is : (kind : IntKind) (x z : ℕ) → word_arithmetic Mul kind x z ≡ Some (extended kind (by_words Imul (extended kind x) (extended kind z)))
 unfolding extended word_of
 times_is kind x z =
     let a = value_of kind x in
     let b = value_of kind z in
-    by_residue Times kind x z _ (a *ℤ b) refl (sym (residue_twice kind (a *ℤ b)) ∙ ap (λ (r : ℕ). r % modulus kind) (product a b ∙ sym (imul_is (extended kind x) (extended kind z) (word_small kind x) (word_small kind z))))
+    by_residue Mul kind x z _ (a *ℤ b) refl (sym (residue_twice kind (a *ℤ b)) ∙ ap (λ (r : ℕ). r % modulus kind) (product a b ∙ sym (imul_is (extended kind x) (extended kind z) (word_small kind x) (word_small kind z))))
 
 -- ---- bits
 

@@ -5,7 +5,7 @@ use Rattle.std.proofs.lemmas.Bool.Decides.{nat_tests}
 use Rattle.mx_base.specs.declared.limits.Bounds.{Bounds as BoundsPair}
 use Rattle.mx_base.specs.declared.numbers.IntKind.{IntKind}
 use Rattle.mx_base.specs.StopOfC.{AccessOfC}
-use Rattle.mx_base.specs.Operators.{Arithmetic, Comparison, arithmetic_at, comparison_at, word_arithmetic}
+use Rattle.mx_base.specs.Operators.{word_arithmetic}
 use Rattle.mx_base.specs.Numbers.{size_of}
 use Rattle.mx_base.specs.Bounds.{leaving_value}
 use Rattle.mx_base.specs.Access.{Refusal, refusal}
@@ -17,7 +17,7 @@ use Rattle.fat_ir.specs.declared.step.FatStep.{FatStep}
 use Rattle.fat_ir.specs.declared.step.FatStep.TheVariants.{Const, Copy, Arith, Compare, Extend, Place, Make, Meet, Bound, Judge, Load, Store, LoadPtr, StorePtr, Label, Jump, JumpIf, Call, Service, Give}
 use Rattle.fat_ir.specs.Values.{Held, Nothing, Number, Pair, Values, Value, with_held}
 use Rattle.fat_ir.specs.Calls.{Outcome, Comes, Stops, Stuck}
-use Rattle.fat_ir.specs.Step.{Symbols, State, Reached, Over, held_then, number_then, bounds_then, number_or_0_then, bounds_or_full_then, arguments_then, computed, operated, compared, judged, unless_refused, number_loaded, number_stored, pointer_came, pointer_went, jumps_unless_0, came_back, answered, served_in_c, does}
+use Rattle.fat_ir.specs.Step.{Symbols, State, Reached, Over, held_then, number_then, bounds_then, number_or_0_then, bounds_or_full_then, arguments_then, computed, judged, unless_refused, number_loaded, number_stored, pointer_came, pointer_went, jumps_unless_0, came_back, answered, served_in_c, does}
 use Rattle.fat_ir.specs.Named.{maybe, writes}
 use Rattle.fat_ir.specs.Laws.{WorldAfter, ValuesAfter, IsNone, is_quiet, LeavesMemory}
 
@@ -72,14 +72,6 @@ quiet-computed : (to : ℕ) (o : Option ℕ) (s : State) → WorldAfter (LeavesM
 quiet-computed to None s = leaves s.world
 quiet-computed to (Some n) s = leaves s.world
 
-quiet-operated : (to : ℕ) (op : Option Arithmetic) (kind : IntKind) (a b : ℕ) (s : State) → WorldAfter (LeavesMemory s.world) (operated to op kind a b s)
-quiet-operated to None kind a b s = tt
-quiet-operated to (Some op) kind a b s = quiet-computed to (word_arithmetic op kind a b) s
-
-quiet-compared : (to : ℕ) (op : Option Comparison) (kind : IntKind) (a b : ℕ) (s : State) → WorldAfter (LeavesMemory s.world) (compared to op kind a b s)
-quiet-compared to None kind a b s = tt
-quiet-compared to (Some op) kind a b s = leaves s.world
-
 quiet-judged : (o : Option ℕ) (b : BoundsPair) (access : AccessOfC) (s : State) → WorldAfter (LeavesMemory s.world) (judged o b access s)
 quiet-judged None b access s = leaves s.world
 quiet-judged (Some v) b access s = leaves s.world
@@ -95,8 +87,8 @@ quiet-jumps (suc n) label s = leaves s.world
 pub quiet-does : (symbols : Symbols) (step : FatStep) (s : State) → is_quiet step ≡ true → WorldAfter (LeavesMemory s.world) (does symbols step s)
 quiet-does symbols (Const to n) s q = leaves s.world
 quiet-does symbols (Copy to from) s q = after-held (WorldAfter (LeavesMemory s.world)) tt (s.values from) _ (λ x. leaves s.world)
-quiet-does symbols (Arith to op kind a b) s q = after-number (WorldAfter (LeavesMemory s.world)) tt (s.values a) _ (λ x. after-number (WorldAfter (LeavesMemory s.world)) tt (s.values b) _ (λ y. quiet-operated to (arithmetic_at op) kind x y s))
-quiet-does symbols (Compare to op kind a b) s q = after-number (WorldAfter (LeavesMemory s.world)) tt (s.values a) _ (λ x. after-number (WorldAfter (LeavesMemory s.world)) tt (s.values b) _ (λ y. quiet-compared to (comparison_at op) kind x y s))
+quiet-does symbols (Arith to op kind a b) s q = after-number (WorldAfter (LeavesMemory s.world)) tt (s.values a) _ (λ x. after-number (WorldAfter (LeavesMemory s.world)) tt (s.values b) _ (λ y. quiet-computed to (word_arithmetic op kind x y) s))
+quiet-does symbols (Compare to op kind a b) s q = after-number (WorldAfter (LeavesMemory s.world)) tt (s.values a) _ (λ x. after-number (WorldAfter (LeavesMemory s.world)) tt (s.values b) _ (λ y. leaves s.world))
 quiet-does symbols (Extend to from kind) s q = after-number (WorldAfter (LeavesMemory s.world)) tt (s.values from) _ (λ x. leaves s.world)
 quiet-does symbols (Place to bounds symbol offset size) s q = leaves s.world
 quiet-does symbols (Make to p n) s q = after-number (WorldAfter (LeavesMemory s.world)) tt (s.values p) _ (λ x. after-number (WorldAfter (LeavesMemory s.world)) tt (s.values n) _ (λ y. leaves s.world))
@@ -111,7 +103,7 @@ quiet-does symbols (Label n) s q = leaves s.world
 quiet-does symbols (Jump n) s q = leaves s.world
 quiet-does symbols (JumpIf from n) s q = after-number (WorldAfter (LeavesMemory s.world)) tt (s.values from) _ (λ x. quiet-jumps x n s)
 quiet-does symbols (Call symbol args to bounds) s q = absurd (cc)
-quiet-does symbols (Service number arg to) s q = absurd (cc)
+quiet-does symbols (Service service arg to) s q = absurd (cc)
 quiet-does symbols (Give from bounds) s q = after-number_or_0 (WorldAfter (LeavesMemory s.world)) tt s.values from _ (λ n. after-bounds_or_full (WorldAfter (LeavesMemory s.world)) tt s.values bounds _ (λ b. leaves s.world))
 
 -- ---- other values
@@ -132,14 +124,6 @@ module _ (v : ℕ) where
   stays-computed : (to : ℕ) (o : Option ℕ) (s : State) → v ≢ to → Stays s (computed to o s)
   stays-computed to None s other = tt
   stays-computed to (Some n) s other = not_it to (Number n) s.values other
-
-  stays-operated : (to : ℕ) (op : Option Arithmetic) (kind : IntKind) (a b : ℕ) (s : State) → v ≢ to → Stays s (operated to op kind a b s)
-  stays-operated to None kind a b s other = tt
-  stays-operated to (Some op) kind a b s other = stays-computed to (word_arithmetic op kind a b) s other
-
-  stays-compared : (to : ℕ) (op : Option Comparison) (kind : IntKind) (a b : ℕ) (s : State) → v ≢ to → Stays s (compared to op kind a b s)
-  stays-compared to None kind a b s other = tt
-  stays-compared to (Some op) kind a b s other = not_it to _ s.values other
 
   stays-judged : (o : Option ℕ) (b : BoundsPair) (access : AccessOfC) (s : State) → Stays s (judged o b access s)
   stays-judged None b access s = refl
@@ -179,8 +163,8 @@ module _ (v : ℕ) where
   pub others-stay : (symbols : Symbols) (step : FatStep) (s : State) → IsNone v (writes step) → Stays s (does symbols step s)
   others-stay symbols (Const to n) s none = not_it to _ s.values none.0
   others-stay symbols (Copy to from) s none = after-held (Stays s) tt (s.values from) _ (λ x. not_it to x s.values none.0)
-  others-stay symbols (Arith to op kind a b) s none = after-number (Stays s) tt (s.values a) _ (λ x. after-number (Stays s) tt (s.values b) _ (λ y. stays-operated to (arithmetic_at op) kind x y s none.0))
-  others-stay symbols (Compare to op kind a b) s none = after-number (Stays s) tt (s.values a) _ (λ x. after-number (Stays s) tt (s.values b) _ (λ y. stays-compared to (comparison_at op) kind x y s none.0))
+  others-stay symbols (Arith to op kind a b) s none = after-number (Stays s) tt (s.values a) _ (λ x. after-number (Stays s) tt (s.values b) _ (λ y. stays-computed to (word_arithmetic op kind x y) s none.0))
+  others-stay symbols (Compare to op kind a b) s none = after-number (Stays s) tt (s.values a) _ (λ x. after-number (Stays s) tt (s.values b) _ (λ y. not_it to _ s.values none.0))
   others-stay symbols (Extend to from kind) s none = after-number (Stays s) tt (s.values from) _ (λ x. not_it to _ s.values none.0)
   others-stay symbols (Place to bounds symbol offset size) s none = not_either to bounds _ _ s.values none.0 none.1.0
   others-stay symbols (Make to p n) s none = after-number (Stays s) tt (s.values p) _ (λ x. after-number (Stays s) tt (s.values n) _ (λ y. not_it to _ s.values none.0))
@@ -195,5 +179,5 @@ module _ (v : ℕ) where
   others-stay symbols (Jump n) s none = refl
   others-stay symbols (JumpIf from n) s none = after-number (Stays s) tt (s.values from) _ (λ x. stays-jumps x n s)
   others-stay symbols (Call symbol args to bounds) s none = after-arguments (Stays s) tt s.values args _ (λ vs. stays-came_back to bounds (symbols.call symbol vs s.world) s none)
-  others-stay symbols (Service number arg to) s none = after-number_or_0 (Stays s) tt s.values arg _ (λ word. stays-answered to (served_in_c number word s.world) s none)
+  others-stay symbols (Service service arg to) s none = after-number_or_0 (Stays s) tt s.values arg _ (λ word. stays-answered to (served_in_c service word s.world) s none)
   others-stay symbols (Give from bounds) s none = after-number_or_0 (Stays s) tt s.values from _ (λ n. after-bounds_or_full (Stays s) tt s.values bounds _ (λ b. tt))

@@ -7,6 +7,7 @@ use Rattle.mx_base.specs.Memory.{Bytes, with_number}
 use Rattle.mx_base.proofs.MemoryLemmas.{with_number_below, with_number_above}
 use Rattle.std.proofs.lemmas.Bool.Decides.{nat_tests}
 use Rattle.mx_base.specs.Access.{Refusal, refusal}
+use Rattle.mx_base.specs.declared.services.CService.{CService}
 use Rattle.mx_base.specs.Services.{Guest, Service, Write, Exit, Alloc, Free, Print, Put, Get, StackOver, NoService, Served, Answers, served, c_service, gotten, free_answer}
 use Rattle.mx_base.specs.World.{World, Access, read_noted, number_written}
 use Rattle.fat_ir.specs.Values.{Value}
@@ -26,7 +27,7 @@ fewer = record {
   read = λ w n a e. omega arith;
   wrote = λ w n a v e. omega arith;
   stored = λ w s. omega arith;
-  served = λ w number word answer g e. omega arith;
+  served = λ w service word answer g e. omega arith;
   turned = λ w n e. omega (arith, e);
 }
 
@@ -74,8 +75,8 @@ services-put m refused Get word g = got g g.input
 services-put m refused StackOver word g = tt
 services-put m refused NoService word g = begins-same g.out
 
-pub served-longer : (w : World) (number word answer : ℕ) (g : Guest) → served_in_c number word w ≡ Answers answer g → Begins w.guest.out g.out
-served-longer w number word answer g e = let P : Served Refusal → Type 0 = AnsweredLonger w.guest.out in subst P e (services-put w.bytes _ (c_service number) word w.guest)
+pub served-longer : (w : World) (service : CService) (word answer : ℕ) (g : Guest) → served_in_c service word w ≡ Answers answer g → Begins w.guest.out g.out
+served-longer w service word answer g e = let P : Served Refusal → Type 0 = AnsweredLonger w.guest.out in subst P e (services-put w.bytes _ (c_service service) word w.guest)
 
 output : (w u : World) → Begins w.guest.out u.guest.out → OutputGrows w u
 output w u h = record { more = h.more; is = h.is }
@@ -95,7 +96,7 @@ longer_output = record {
   read = λ w n a e. output w _ (begins-same w.guest.out);
   wrote = λ w n a v e. output w _ (begins-same w.guest.out);
   stored = λ w s. output w _ (begins-same w.guest.out);
-  served = λ w number word answer g e. output w _ (served-longer w number word answer g e);
+  served = λ w service word answer g e. output w _ (served-longer w service word answer g e);
   turned = λ w n e. output w _ (begins-same w.guest.out);
 }
 
@@ -122,7 +123,7 @@ more_accesses = record {
   read = λ w n a e. accesses w _ (begins-more w.accesses _);
   wrote = λ w n a v e. accesses w _ (begins-more w.accesses _);
   stored = λ w s. accesses w _ (begins-same w.accesses);
-  served = λ w number word answer g e. accesses w _ (begins-same w.accesses);
+  served = λ w service word answer g e. accesses w _ (begins-same w.accesses);
   turned = λ w n e. accesses w _ (begins-same w.accesses);
 }
 
@@ -175,7 +176,7 @@ all_traced = record {
   read = read_traced;
   wrote = write_traced;
   stored = λ w s. no_access w _ refl refl;
-  served = λ w number word answer g e. no_access w _ refl refl;
+  served = λ w service word answer g e. no_access w _ refl refl;
   turned = λ w n e. no_access w _ refl refl;
 }
 
@@ -199,7 +200,7 @@ all_allowed = record {
   read = λ w n a e. allowed_of w _ (read_traced w n a e);
   wrote = λ w n a v e. allowed_of w _ (write_traced w n a v e);
   stored = λ w s. allowed_of w _ (all_traced.stored w s);
-  served = λ w number word answer g e. allowed_of w _ (all_traced.served w number word answer g e);
+  served = λ w service word answer g e. allowed_of w _ (all_traced.served w service word answer g e);
   turned = λ w n e. allowed_of w _ (all_traced.turned w n e);
 }
 
@@ -216,7 +217,7 @@ module _ (event : Events) where
     read = λ w n a e. PieceOfSteps w _ (read_traced w n a e);
     wrote = λ w n a v e. PieceOfSteps w _ (write_traced w n a v e);
     stored = λ w s. PieceOfSteps w _ (all_traced.stored w s);
-    served = λ w number word answer g e. PieceOfSteps w _ (all_traced.served w number word answer g e);
+    served = λ w service word answer g e. PieceOfSteps w _ (all_traced.served w service word answer g e);
     turned = λ w n e. PieceOfSteps w _ (all_traced.turned w n e);
   }
 
@@ -234,7 +235,7 @@ same_frame = record {
   read = λ w n a e. refl;
   wrote = λ w n a v e. refl;
   stored = λ w s. refl;
-  served = λ w number word answer g e. refl;
+  served = λ w service word answer g e. refl;
   turned = λ w n e. refl;
 }
 
@@ -274,6 +275,6 @@ same_legacy_stack = record {
   read = λ w n a e. refl;
   wrote = λ w n a v e. refl;
   stored = λ w s. refl;
-  served = λ w number word answer g e. refl;
+  served = λ w service word answer g e. refl;
   turned = λ w n e. refl;
 }

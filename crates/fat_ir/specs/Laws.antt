@@ -120,7 +120,7 @@ abbrev pub is_quiet : FatStep → Bool
 is_quiet (Store p from kind) = false
 is_quiet (StorePtr p from bounds) = false
 is_quiet (Call symbol args to bounds) = false
-is_quiet (Service number arg to) = false
+is_quiet (Service service arg to) = false
 is_quiet _ = true
 
 -- what such a step leaves: all but the accesses done, and the megabytes whose bounds were asked for

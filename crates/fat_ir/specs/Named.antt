@@ -31,7 +31,7 @@ reads (Label n) = []
 reads (Jump n) = []
 reads (JumpIf from n) = from ∷ []
 reads (Call symbol args to bounds) = in_arguments args
-reads (Service number arg to) = maybe arg
+reads (Service service arg to) = maybe arg
 reads (Give from bounds) = maybe from ++ maybe bounds
 
 -- the values that a step may write
@@ -54,5 +54,5 @@ writes (Label n) = []
 writes (Jump n) = []
 writes (JumpIf from n) = []
 writes (Call symbol args to bounds) = maybe to ++ maybe bounds
-writes (Service number arg to) = maybe to
+writes (Service service arg to) = maybe to
 writes (Give from bounds) = []

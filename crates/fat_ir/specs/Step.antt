@@ -3,7 +3,8 @@ use Rattle.std.specs.Prelude.{ℕ, zero, suc, true, false, if◌then◌else◌, 
 use Rattle.mx_base.specs.declared.limits.Bounds.{Bounds as BoundsPair}
 use Rattle.mx_base.specs.declared.numbers.IntKind.{IntKind}
 use Rattle.mx_base.specs.Numbers.{size_of, extended}
-use Rattle.mx_base.specs.Operators.{Arithmetic, Comparison, arithmetic_at, comparison_at, word_arithmetic, word_compares}
+use Rattle.mx_base.specs.declared.services.CService.{CService}
+use Rattle.mx_base.specs.Operators.{word_arithmetic, word_compares}
 use Rattle.mx_base.specs.Bounds.{full_bounds, met, moved, bounds_at, leaving_value}
 use Rattle.mx_base.specs.Memory.{number_at}
 use Rattle.mx_base.specs.Access.{Refusal, Strays, Misses, refusal}
@@ -110,15 +111,6 @@ abbrev pub computed : ℕ → Option ℕ → State → Reached
 computed to None s = stops Divide s
 computed to (Some n) s = goes (with_number to n s)
 
--- by the operator of a place among the operators; a place of no such operator is stuck
-abbrev pub operated : (to : ℕ) → Option Arithmetic → IntKind → (a b : ℕ) → State → Reached
-operated to None kind a b s = Over Stuck
-operated to (Some op) kind a b s = computed to (word_arithmetic op kind a b) s
-
-abbrev pub compared : (to : ℕ) → Option Comparison → IntKind → (a b : ℕ) → State → Reached
-compared to None kind a b s = Over Stuck
-compared to (Some op) kind a b s = goes (with_number to (word_compares op kind a b) s)
-
 -- the address behind a symbol or behind the data frame, with the bounds of so many bytes there, or full ones for a function
 abbrev pub pointer_into : Located → (offset size : ℕ) → Value
 pointer_into (ObjectAt a) offset size = record { number = moved a offset; bounds = bounds_at (moved a offset) size }
@@ -177,15 +169,15 @@ answered to Overflows s = stops StackOver s
 answered to (Refused why) s = stops (stop_by why) s
 
 -- a service that C knows by name, with its word
-abbrev pub served_in_c : ℕ → (word : ℕ) → World → Served Refusal
-served_in_c number word w = served w.bytes (λ from n. refusal false n from) (c_service number) word 0 0 w.guest
+abbrev pub served_in_c : CService → (word : ℕ) → World → Served Refusal
+served_in_c service word w = served w.bytes (λ from n. refusal false n from) (c_service service) word 0 0 w.guest
 
 -- ---- what a step does
 abbrev pub does : Symbols → FatStep → State → Reached
 does symbols (Const to n) s = goes (with_number to n s)
 does symbols (Copy to from) s = held_then (s.values from) (λ h. goes (with_value to h s))
-does symbols (Arith to op kind a b) s = number_then (s.values a) (λ x. number_then (s.values b) (λ y. operated to (arithmetic_at op) kind x y s))
-does symbols (Compare to op kind a b) s = number_then (s.values a) (λ x. number_then (s.values b) (λ y. compared to (comparison_at op) kind x y s))
+does symbols (Arith to op kind a b) s = number_then (s.values a) (λ x. number_then (s.values b) (λ y. computed to (word_arithmetic op kind x y) s))
+does symbols (Compare to op kind a b) s = number_then (s.values a) (λ x. number_then (s.values b) (λ y. goes (with_number to (word_compares op kind x y) s)))
 does symbols (Extend to from kind) s = number_then (s.values from) (λ x. goes (with_number to (extended kind x) s))
 does symbols (Place to bounds symbol offset size) s = goes (with_pointer to bounds (pointer_into (place_of symbols symbol s.world) offset size) s)
 does symbols (Make to p n) s = number_then (s.values p) (λ x. number_then (s.values n) (λ y. goes (with_pair to (bounds_at x y) s)))
@@ -200,5 +192,5 @@ does symbols (Label n) s = goes s
 does symbols (Jump n) s = On (To n) s
 does symbols (JumpIf from n) s = number_then (s.values from) (λ x. jumps_unless_0 x n s)
 does symbols (Call symbol args to bounds) s = arguments_then s.values args (λ vs. came_back to bounds (symbols.call symbol vs s.world) s)
-does symbols (Service number arg to) s = number_or_0_then s.values arg (λ word. answered to (served_in_c number word s.world) s)
+does symbols (Service service arg to) s = number_or_0_then s.values arg (λ word. answered to (served_in_c service word s.world) s)
 does symbols (Give from bounds) s = number_or_0_then s.values from (λ n. bounds_or_full_then s.values bounds (λ b. Over (Comes record { number = n; bounds = b } s.world)))

@@ -2,7 +2,10 @@
 use Rattle.std.specs.Prelude.{ℕ, Bool, true, false, if◌then◌else◌, ◌==◌, ◌+◌, ◌-◌, ◌*◌, Option, None, Some, List, [], ◌∷◌, ◌++◌}
 use Rattle.mx_base.specs.declared.limits.Bounds.{Bounds}
 use Rattle.mx_base.specs.declared.numbers.IntKind.TheVariants.{I8, I32, I64, U64}
+use Rattle.mx_base.specs.declared.operators.Arithmetic.TheVariants.{Add, Sub, Div}
+use Rattle.mx_base.specs.declared.operators.Comparison.TheVariants.{Equal}
 use Rattle.mx_base.specs.declared.places.Place.{Place as PlaceOf}
+use Rattle.mx_base.specs.declared.services.CService.TheVariants as in_c
 use Rattle.mx_base.specs.StopOfC.{StopOfC}
 use Rattle.mx_base.specs.Memory.{no_bytes}
 use Rattle.mx_base.specs.World.{Access, world_at_start}
@@ -71,7 +74,7 @@ abbrev pub element : (i : ℕ) → List FatStep
 element i =
     Place 0 1 (Some 0) 0 4
     ∷ Const 2 i
-    ∷ Arith 0 3 U64 0 2
+    ∷ Arith 0 Add U64 0 2
     ∷ []
 
 abbrev pub writes_element : (i : ℕ) → FatFun
@@ -82,7 +85,7 @@ writes_element i = fun 0 0 4 in_turn (element i ++ (
     ∷ []) ++ element i ++ (
     Judge 0 1 1 false (at 2 29)
     ∷ Load 0 0 I8
-    ∷ Service 1 (Some 0) None
+    ∷ Service in_c.Put (Some 0) None
     ∷ Const 0 0
     ∷ Give (Some 0) None
     ∷ []))
@@ -103,9 +106,9 @@ abbrev pub counts : FatFun
 counts = fun 0 1 2 (false ∷ false ∷ true ∷ []) (
     Const 0 0
     ∷ Label 0
-    ∷ Service 0 (Some 0) None
+    ∷ Service in_c.Print (Some 0) None
     ∷ Const 1 1
-    ∷ Arith 0 3 I32 0 1
+    ∷ Arith 0 Add I32 0 1
     ∷ Jump 0
     ∷ [])
 
@@ -115,8 +118,8 @@ abbrev pub divides_by_0 : FatFun
 divides_by_0 = fun 0 0 3 in_turn (
     Const 0 1
     ∷ Const 2 0
-    ∷ Arith 0 1 I32 0 2
-    ∷ Service 0 (Some 0) None
+    ∷ Arith 0 Div I32 0 2
+    ∷ Service in_c.Print (Some 0) None
     ∷ Const 0 0
     ∷ Give (Some 0) None
     ∷ [])
@@ -128,7 +131,7 @@ abbrev pub spoiled : List FatStep
 spoiled =
     Load 0 2 I8
     ∷ Const 4 1
-    ∷ Arith 2 3 I32 2 4
+    ∷ Arith 2 Add I32 2 4
     ∷ Store 0 2 I8
     ∷ []
 
@@ -141,7 +144,7 @@ keeps_pointer spoils = fun 0 0 6 in_turn ((
     ∷ []) ++ (if spoils then spoiled else []) ++ (
     LoadPtr 0 2 3
     ∷ Const 4 4
-    ∷ Arith 2 3 U64 2 4
+    ∷ Arith 2 Add U64 2 4
     ∷ Const 4 1
     ∷ Judge 2 1 3 true (at 4 1)
     ∷ Store 2 4 I8
@@ -154,14 +157,14 @@ keeps_pointer spoils = fun 0 0 6 in_turn ((
 abbrev pub frees_twice : FatFun
 frees_twice = fun 0 2 2 in_turn (
     Const 2 8
-    ∷ Service 3 (Some 2) (Some 0)
+    ∷ Service in_c.Alloc (Some 2) (Some 0)
     ∷ Make 1 0 2
-    ∷ Service 4 (Some 0) (Some 2)
-    ∷ Service 0 (Some 2) None
-    ∷ Service 4 (Some 0) (Some 2)
-    ∷ Service 0 (Some 2) None
-    ∷ Service 2 None (Some 2)
-    ∷ Service 0 (Some 2) None
+    ∷ Service in_c.Free (Some 0) (Some 2)
+    ∷ Service in_c.Print (Some 2) None
+    ∷ Service in_c.Free (Some 0) (Some 2)
+    ∷ Service in_c.Print (Some 2) None
+    ∷ Service in_c.Get None (Some 2)
+    ∷ Service in_c.Print (Some 2) None
     ∷ Const 2 0
     ∷ Give (Some 2) None
     ∷ [])
@@ -173,14 +176,14 @@ abbrev pub narrows : FatFun
 narrows = fun 0 0 4 in_turn (
     Place 0 1 (Some 0) 0 16
     ∷ Const 2 4
-    ∷ Arith 0 3 U64 0 2
+    ∷ Arith 0 Add U64 0 2
     ∷ Const 2 8
     ∷ Make 3 0 2
     ∷ Meet 1 1 3
     ∷ Bound 0 1 false
-    ∷ Service 0 (Some 0) None
+    ∷ Service in_c.Print (Some 0) None
     ∷ Bound 0 1 true
-    ∷ Service 0 (Some 0) None
+    ∷ Service in_c.Print (Some 0) None
     ∷ Const 0 0
     ∷ Give (Some 0) None
     ∷ [])
@@ -203,11 +206,11 @@ reads_at address = fun 0 0 4 in_turn (
 abbrev pub descends : FatFun
 descends = fun 0 1 3 (false ∷ false ∷ true ∷ false ∷ []) (
     Const 1 0
-    ∷ Compare 1 11 I32 0 1
+    ∷ Compare 1 Equal I32 0 1
     ∷ JumpIf 1 0
     ∷ Copy 1 0
     ∷ Const 3 1
-    ∷ Arith 1 4 I32 1 3
+    ∷ Arith 1 Sub I32 1 3
     ∷ Call 0 ((1, None) ∷ []) (Some 1) None
     ∷ Give (Some 1) None
     ∷ Label 0
@@ -235,7 +238,7 @@ abbrev pub fills_frame : (n : ℕ) → FatFun
 fills_frame n = with_frame n (fun 0 0 4 in_turn (
     Place 0 1 None 0 n
     ∷ Const 2 (n - 1)
-    ∷ Arith 0 3 U64 0 2
+    ∷ Arith 0 Add U64 0 2
     ∷ Const 2 1
     ∷ Judge 0 1 1 true (at 1 31)
     ∷ Store 0 2 I8

@@ -1,6 +1,6 @@
 //! One step.
 
-use mx_base::{IntKind, Place};
+use mx_base::{Arithmetic, CService, Comparison, IntKind, Place};
 use sqlite_items::Items;
 
 /// A step of a C function. A field of type `u32` names a value of the function, unless it is said otherwise; the values
@@ -18,19 +18,17 @@ pub enum FatStep {
         from: u32,
     },
     /// `to` becomes the result of an operator on the numbers `a` and `b` of type `kind`, or the run stops by `Divide`.
-    /// `op` is the operator's place, from 0, among C's operators between two operands:
-    /// `* / % + - << >> < <= > >= == != & ^ | && ||`.
     Arith {
         to: u32,
-        op: u8,
+        op: Arithmetic,
         kind: IntKind,
         a: u32,
         b: u32,
     },
-    /// `to` becomes 1 if the numbers `a` and `b` of type `kind` compare so, and else 0. `op` is a place in the same list.
+    /// `to` becomes 1 if the numbers `a` and `b` of type `kind` compare so, and else 0.
     Compare {
         to: u32,
-        op: u8,
+        op: Comparison,
         kind: IntKind,
         a: u32,
         b: u32,
@@ -122,10 +120,9 @@ pub enum FatStep {
         to: Option<u32>,
         bounds: Option<u32>,
     },
-    /// A service with its word, by its place, from 0, among those that C knows: `print put get alloc free exit`. The answer
-    /// goes to `to`.
+    /// A service with its word. The answer goes to `to`.
     Service {
-        number: u8,
+        service: CService,
         arg: Option<u32>,
         to: Option<u32>,
     },

@@ -4,7 +4,8 @@ use Rattle.std.specs.Fmt.{digits}
 use Rattle.mx_base.specs.declared.limits.Bounds.{Bounds}
 use Rattle.mx_base.specs.declared.numbers.IntKind.TheVariants.{I8, U8, I32, I64, U64}
 use Rattle.mx_base.specs.Numbers.{residue, as_signed, number_of, value_of, wrapped, word_of, extended}
-use Rattle.mx_base.specs.Operators.{Over, Rest, Left, Right, arithmetic}
+use Rattle.mx_base.specs.declared.operators.Arithmetic.TheVariants.{Div, Rem, Shl, Shr}
+use Rattle.mx_base.specs.Operators.{arithmetic}
 use Rattle.mx_base.specs.Bounds.{last_byte, leaving_value, is_outside, bounds_at, full_bounds, met}
 use Rattle.mx_base.specs.Regions.{is_readable, is_writable, is_executable, is_sealed, is_open_to_read, is_open_to_write}
 use Rattle.mx_base.specs.Memory.{no_bytes, number_at, with_number, first_refused, first_refused_around}
@@ -148,14 +149,14 @@ extends : (extended I8 0x1ff ≡ 0xffff_ffff_ffff_ffff) × (extended U8 0x1ff �
 unfolding extended value_of number_of as_signed word_of residue
 extends = (refl, refl, refl, refl)
 
-divides : (arithmetic Over I32 (pos 1) (pos 0) ≡ None) × (arithmetic Over I64 (negsuc 0x7fff_ffff_ffff_ffff) (negsuc 0) ≡ None)
-    × (arithmetic Over I32 (negsuc 0x7fff_ffff) (negsuc 0) ≡ Some (negsuc 0x7fff_ffff)) × (arithmetic Over I32 (negsuc 6) (pos 2) ≡ Some (negsuc 2))
-    × (arithmetic Rest I32 (negsuc 6) (pos 2) ≡ Some (negsuc 0))
+divides : (arithmetic Div I32 (pos 1) (pos 0) ≡ None) × (arithmetic Div I64 (negsuc 0x7fff_ffff_ffff_ffff) (negsuc 0) ≡ None)
+    × (arithmetic Div I32 (negsuc 0x7fff_ffff) (negsuc 0) ≡ Some (negsuc 0x7fff_ffff)) × (arithmetic Div I32 (negsuc 6) (pos 2) ≡ Some (negsuc 2))
+    × (arithmetic Rem I32 (negsuc 6) (pos 2) ≡ Some (negsuc 0))
 unfolding arithmetic wrapped number_of as_signed residue word_of
 divides = (refl, refl, refl, refl, refl)
 
-shifts : (arithmetic Left I32 (pos 1) (pos 33) ≡ Some (pos 2)) × (arithmetic Left I64 (pos 1) (pos 33) ≡ Some (pos 0x2_0000_0000))
-    × (arithmetic Right I32 (negsuc 4) (pos 1) ≡ Some (negsuc 2)) × (arithmetic Right I32 (negsuc 4) (negsuc 0) ≡ Some (negsuc 0))
+shifts : (arithmetic Shl I32 (pos 1) (pos 33) ≡ Some (pos 2)) × (arithmetic Shl I64 (pos 1) (pos 33) ≡ Some (pos 0x2_0000_0000))
+    × (arithmetic Shr I32 (negsuc 4) (pos 1) ≡ Some (negsuc 2)) × (arithmetic Shr I32 (negsuc 4) (negsuc 0) ≡ Some (negsuc 0))
 unfolding arithmetic wrapped number_of as_signed residue word_of
 shifts = (refl, refl, refl, refl)
 

@@ -5,27 +5,11 @@ use Rattle.std.specs.Ordering.{int_eq}
 use Rattle.std.specs.Option.{option_map}
 use Rattle.mx_base.specs.declared.numbers.IntKind.{IntKind}
 use Rattle.mx_base.specs.declared.numbers.IntKind.TheVariants.{I64, U64}
+use Rattle.mx_base.specs.declared.operators.Arithmetic.{Arithmetic}
+use Rattle.mx_base.specs.declared.operators.Arithmetic.TheVariants.{Mul, Div, Rem, Add, Sub, Shl, Shr, BitAnd, BitXor, BitOr}
+use Rattle.mx_base.specs.declared.operators.Comparison.{Comparison}
+use Rattle.mx_base.specs.declared.operators.Comparison.TheVariants.{Less, LessOrEqual, Greater, GreaterOrEqual, Equal, NotEqual}
 use Rattle.mx_base.specs.Numbers.{residue, value_of, wrapped, word_of}
-
-pub data Arithmetic : Type 0 where
-  Times : Arithmetic
-  Over : Arithmetic
-  Rest : Arithmetic
-  Plus : Arithmetic
-  Minus : Arithmetic
-  Left : Arithmetic
-  Right : Arithmetic
-  BitAnd : Arithmetic
-  BitXor : Arithmetic
-  BitOr : Arithmetic
-
-pub data Comparison : Type 0 where
-  Below : Comparison
-  AtMost : Comparison
-  Above : Comparison
-  AtLeast : Comparison
-  Equal : Comparison
-  Differs : Comparison
 
 -- a shift count is taken modulo 64 for a type of 64 bits, and else modulo 32
 abbrev pub count_modulus : IntKind → ℕ
@@ -46,13 +30,13 @@ has_no_quotient k a b = int_eq b (pos 0) || is_long k && int_eq a least_long && 
 
 -- the whole number that an operator gives, before it is wrapped; None is the stop of a division
 abbrev pub whole : Arithmetic → IntKind → ℤ → ℤ → Option ℤ
-whole Times k a b = Some (a *ℤ b)
-whole Over k a b = if has_no_quotient k a b then None else Some (int_div a b)
-whole Rest k a b = if has_no_quotient k a b then None else Some (int_rem a b)
-whole Plus k a b = Some (a +ℤ b)
-whole Minus k a b = Some (a -ℤ b)
-whole Left k a b = Some (a *ℤ pos (2 ^ residue (count_modulus k) b))
-whole Right k a b = Some (int_shr a (residue (count_modulus k) b))
+whole Mul k a b = Some (a *ℤ b)
+whole Div k a b = if has_no_quotient k a b then None else Some (int_div a b)
+whole Rem k a b = if has_no_quotient k a b then None else Some (int_rem a b)
+whole Add k a b = Some (a +ℤ b)
+whole Sub k a b = Some (a -ℤ b)
+whole Shl k a b = Some (a *ℤ pos (2 ^ residue (count_modulus k) b))
+whole Shr k a b = Some (int_shr a (residue (count_modulus k) b))
 whole BitAnd k a b = Some (pos (bit_and (word_of a) (word_of b)))
 whole BitXor k a b = Some (pos (bit_xor (word_of a) (word_of b)))
 whole BitOr k a b = Some (pos (bit_or (word_of a) (word_of b)))
@@ -62,12 +46,12 @@ unfoldable pub arithmetic : Arithmetic → IntKind → ℤ → ℤ → Option �
 arithmetic op k a b = option_map (wrapped k) (whole op k a b)
 
 unfoldable pub compares : Comparison → ℤ → ℤ → Bool
-compares Below a b = int_lt a b
-compares AtMost a b = int_le a b
-compares Above a b = int_lt b a
-compares AtLeast a b = int_le b a
+compares Less a b = int_lt a b
+compares LessOrEqual a b = int_le a b
+compares Greater a b = int_lt b a
+compares GreaterOrEqual a b = int_le b a
 compares Equal a b = int_eq a b
-compares Differs a b = not (int_eq a b)
+compares NotEqual a b = not (int_eq a b)
 
 -- the same on words, of which only the type's low bits count
 unfoldable pub word_arithmetic : Arithmetic → IntKind → ℕ → ℕ → Option ℕ
@@ -88,10 +72,10 @@ is_zero a = int_eq a (pos 0)
 
 -- the operators between two operands by their places, from 0, in the order in which they bind: * / % + - << >> < <= > >= == != & ^ | && ||
 unfoldable pub arithmetic_at : ℕ → Option Arithmetic
-arithmetic_at n = if n == 0 then Some Times else if n == 1 then Some Over else if n == 2 then Some Rest else if n == 3 then Some Plus
-    else if n == 4 then Some Minus else if n == 5 then Some Left else if n == 6 then Some Right else if n == 13 then Some BitAnd
+arithmetic_at n = if n == 0 then Some Mul else if n == 1 then Some Div else if n == 2 then Some Rem else if n == 3 then Some Add
+    else if n == 4 then Some Sub else if n == 5 then Some Shl else if n == 6 then Some Shr else if n == 13 then Some BitAnd
     else if n == 14 then Some BitXor else if n == 15 then Some BitOr else None
 
 unfoldable pub comparison_at : ℕ → Option Comparison
-comparison_at n = if n == 7 then Some Below else if n == 8 then Some AtMost else if n == 9 then Some Above else if n == 10 then Some AtLeast
-    else if n == 11 then Some Equal else if n == 12 then Some Differs else None
+comparison_at n = if n == 7 then Some Less else if n == 8 then Some LessOrEqual else if n == 9 then Some Greater else if n == 10 then Some GreaterOrEqual
+    else if n == 11 then Some Equal else if n == 12 then Some NotEqual else None

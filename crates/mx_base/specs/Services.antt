@@ -2,6 +2,8 @@
 use Rattle.std.specs.Prelude.{ℕ, ◌-◌, ◌%◌, ◌==◌, not, if◌then◌else◌, Option, None, Some, List, [], ◌∷◌, ◌++◌}
 use Rattle.std.specs.Fmt.{signed_decimal}
 use Rattle.mx_base.specs.declared.numbers.IntKind.TheVariants.{I64}
+use Rattle.mx_base.specs.declared.services.CService.{CService}
+use Rattle.mx_base.specs.declared.services.CService.TheVariants as in_c
 use Rattle.mx_base.specs.Numbers.{value_of}
 use Rattle.mx_base.specs.Bounds.{addresses}
 use Rattle.mx_base.specs.Memory.{Bytes, list_at}
@@ -79,7 +81,11 @@ served m refused Get rdi rsi rdx g = gotten g g.input
 served m refused StackOver rdi rsi rdx g = Overflows
 served m refused NoService rdi rsi rdx g = Answers (minus 38) g
 
--- the services that C knows by name, in this order: print, put, get, alloc, free and exit
-unfoldable pub c_service : ℕ → Service
-c_service n = if n == 0 then Print else if n == 1 then Put else if n == 2 then Get else if n == 3 then Alloc
-    else if n == 4 then Free else if n == 5 then Exit else NoService
+-- the services that C knows by name
+unfoldable pub c_service : CService → Service
+c_service in_c.Print = Print
+c_service in_c.Put = Put
+c_service in_c.Get = Get
+c_service in_c.Alloc = Alloc
+c_service in_c.Free = Free
+c_service in_c.Exit = Exit

@@ -62,7 +62,7 @@ module _ (units : ℕ) (p : Plan) (located : ℕ → Located) (steps : List FatS
   FineStep i (s.Jump n) = LacksLabel n steps → ⊥
   FineStep i (s.JumpIf from n) = NamedOf i from × (LacksLabel n steps → ⊥)
   FineStep i (s.Call symbol args to bounds) = ArgsFineOf i args × (length args ≤ 6) × ToFineOf i to false × ToFineOf i bounds true × (IsSome bounds → returns symbol ≡ true) × ((x : ℕ) → NamedOf i x → IsSlot (p.home x)) × (takes symbol args ≡ true)
-  FineStep i (s.Service number arg to) = (number < 6) × ToNamedOf i arg × ToFineOf i to false × ((x : ℕ) → NamedOf i x → IsSlot (p.home x))
+  FineStep i (s.Service service arg to) = ToNamedOf i arg × ToFineOf i to false × ((x : ℕ) → NamedOf i x → IsSlot (p.home x))
   FineStep i (s.Give (Some from) None) = NamedOf i from × (p.pointer ≡ false)
   FineStep i (s.Give (Some from) (Some b)) = NamedOf i from × NamedOf i b
   FineStep i (s.Give None None) = Unit {0}

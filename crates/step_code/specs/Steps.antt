@@ -4,7 +4,12 @@ use Rattle.std.specs.Prelude.{ℕ, zero, suc, ◌+◌, ◌^◌, Bool, true, fals
 use Rattle.mx_base.specs.declared.numbers.IntKind.{IntKind}
 use Rattle.mx_base.specs.declared.numbers.IntKind.TheVariants.{I8, U8, I16, U16, I32, U32, I64, U64}
 use Rattle.mx_base.specs.Numbers.{as_signed, is_signed}
-use Rattle.mx_base.specs.Operators.{Arithmetic, Times, Over, Rest, Plus, Minus, Left, Right, BitAnd, BitXor, BitOr, Comparison, Below, AtMost, Above, AtLeast, Equal, Differs, arithmetic_at, comparison_at}
+use Rattle.mx_base.specs.declared.operators.Arithmetic.{Arithmetic}
+use Rattle.mx_base.specs.declared.operators.Arithmetic.TheVariants.{Mul, Div, Rem, Add, Sub, Shl, Shr, BitAnd, BitXor, BitOr}
+use Rattle.mx_base.specs.declared.operators.Comparison.{Comparison}
+use Rattle.mx_base.specs.declared.operators.Comparison.TheVariants.{Less, LessOrEqual, Greater, GreaterOrEqual, Equal, NotEqual}
+use Rattle.mx_base.specs.declared.services.CService.{CService}
+use Rattle.mx_base.specs.declared.services.CService.TheVariants as in_c
 use Rattle.x86_forms.specs.declared.instr.Instr.{Instr}
 use Rattle.x86_forms.specs.declared.instr.Base.TheVariants.{None as NoBase}
 use Rattle.x86_forms.specs.declared.instr.Rm.TheVariants.{Mem as InMem}
@@ -50,14 +55,14 @@ pub record Plan : Type 0 where
   pub pointer : Bool
   pub located : ℕ → Located
 
--- the machine's number of a service that C knows by its place: print, put, get, alloc, free, exit
-abbrev pub service_number : ℕ → ℕ
-service_number zero = 0x1002
-service_number (suc zero) = 0x1003
-service_number (suc (suc zero)) = 0x1004
-service_number (suc (suc (suc zero))) = 0x1000
-service_number (suc (suc (suc (suc zero)))) = 0x1001
-service_number (suc (suc (suc (suc (suc n))))) = 60
+-- the machine's number of a service that C knows
+abbrev pub service_number : CService → ℕ
+service_number in_c.Print = 0x1002
+service_number in_c.Put = 0x1003
+service_number in_c.Get = 0x1004
+service_number in_c.Alloc = 0x1000
+service_number in_c.Free = 0x1001
+service_number in_c.Exit = 60
 
 -- a register made the number of a type that its low bits stand for
 abbrev pub extend_instr : IntKind → ℕ → Instr
@@ -119,8 +124,8 @@ shift_width kind = if is_narrow kind then 32 else 64
 
 -- sums and differences need no operands of the type: their low bits come from the low bits
 abbrev pub needs_words : Arithmetic → Bool
-needs_words Plus = false
-needs_words Minus = false
+needs_words Add = false
+needs_words Sub = false
 needs_words op = true
 
 -- shl, sar or shr
@@ -128,30 +133,30 @@ abbrev pub right_shift : IntKind → ℕ
 right_shift kind = if is_signed kind then 2 else 1
 
 abbrev pub operation : Arithmetic → IntKind → List Piece → List Piece
-operation Plus kind rest = Plain (AluTo 0 64 (reg 1) (in_reg 0)) ∷ rest
-operation Minus kind rest = Plain (AluTo 3 64 (reg 1) (in_reg 0)) ∷ rest
-operation Times kind rest = Plain (Imul 64 (reg 0) (in_reg 1)) ∷ rest
+operation Add kind rest = Plain (AluTo 0 64 (reg 1) (in_reg 0)) ∷ rest
+operation Sub kind rest = Plain (AluTo 3 64 (reg 1) (in_reg 0)) ∷ rest
+operation Mul kind rest = Plain (Imul 64 (reg 0) (in_reg 1)) ∷ rest
 operation BitAnd kind rest = Plain (AluTo 2 64 (reg 1) (in_reg 0)) ∷ rest
 operation BitOr kind rest = Plain (AluTo 1 64 (reg 1) (in_reg 0)) ∷ rest
 operation BitXor kind rest = Plain (AluTo 4 64 (reg 1) (in_reg 0)) ∷ rest
-operation Left kind rest = Plain (ShiftCl 0 (shift_width kind) (in_reg 0)) ∷ rest
-operation Right kind rest = Plain (ShiftCl (right_shift kind) (shift_width kind) (in_reg 0)) ∷ rest
-operation Over kind rest = if is_signed kind then Plain (Wide 64) ∷ Plain (One 3 64 (in_reg 1)) ∷ rest else Plain (MovImm 64 (reg 2) (pos 0)) ∷ Plain (One 2 64 (in_reg 1)) ∷ rest
-operation Rest kind rest = if is_signed kind then Plain (Wide 64) ∷ Plain (One 3 64 (in_reg 1)) ∷ Plain (MovTo 64 (reg 2) (in_reg 0)) ∷ rest
+operation Shl kind rest = Plain (ShiftCl 0 (shift_width kind) (in_reg 0)) ∷ rest
+operation Shr kind rest = Plain (ShiftCl (right_shift kind) (shift_width kind) (in_reg 0)) ∷ rest
+operation Div kind rest = if is_signed kind then Plain (Wide 64) ∷ Plain (One 3 64 (in_reg 1)) ∷ rest else Plain (MovImm 64 (reg 2) (pos 0)) ∷ Plain (One 2 64 (in_reg 1)) ∷ rest
+operation Rem kind rest = if is_signed kind then Plain (Wide 64) ∷ Plain (One 3 64 (in_reg 1)) ∷ Plain (MovTo 64 (reg 2) (in_reg 0)) ∷ rest
     else Plain (MovImm 64 (reg 2) (pos 0)) ∷ Plain (One 2 64 (in_reg 1)) ∷ Plain (MovTo 64 (reg 2) (in_reg 0)) ∷ rest
 
 -- the condition of a comparison: below, and for numbers with a sign less
 abbrev pub condition : Comparison → Bool → ℕ
-condition Below true = 12
-condition Below false = 2
-condition AtMost true = 14
-condition AtMost false = 6
-condition Above true = 15
-condition Above false = 7
-condition AtLeast true = 13
-condition AtLeast false = 3
+condition Less true = 12
+condition Less false = 2
+condition LessOrEqual true = 14
+condition LessOrEqual false = 6
+condition Greater true = 15
+condition Greater false = 7
+condition GreaterOrEqual true = 13
+condition GreaterOrEqual false = 3
 condition Equal s = 4
-condition Differs s = 5
+condition NotEqual s = 5
 
 module _ (p : Plan) where
   abbrev pub load_arg : ℕ → Option ℕ → ℕ → ℕ → (ℕ → ℕ → List Piece) → List Piece
@@ -163,13 +168,11 @@ module _ (p : Plan) where
   load_two true kind a b rest = get 0 (p.home a) ∷ widen kind 0 (get 1 (p.home b) ∷ widen kind 1 rest)
   load_two false kind a b rest = get 0 (p.home a) ∷ get 1 (p.home b) ∷ rest
 
-  abbrev pub lower_arith : Option Arithmetic → IntKind → (to a b : ℕ) → List Piece
-  lower_arith (Some op) kind to a b = load_two (needs_words op) kind a b (operation op kind (Plain (extend_instr kind 0) ∷ put (p.home to) 0 ∷ []))
-  lower_arith None kind to a b = []
+  abbrev pub lower_arith : Arithmetic → IntKind → (to a b : ℕ) → List Piece
+  lower_arith op kind to a b = load_two (needs_words op) kind a b (operation op kind (Plain (extend_instr kind 0) ∷ put (p.home to) 0 ∷ []))
 
-  abbrev pub lower_compare : Option Comparison → IntKind → (to a b : ℕ) → List Piece
-  lower_compare (Some op) kind to a b = load_two true kind a b (Plain (AluTo 5 64 (reg 1) (in_reg 0)) ∷ Plain (Set (condition op (is_signed kind)) (in_reg 0)) ∷ Plain (Movzx 8 (reg 0) (in_reg 0)) ∷ put (p.home to) 0 ∷ [])
-  lower_compare None kind to a b = []
+  abbrev pub lower_compare : Comparison → IntKind → (to a b : ℕ) → List Piece
+  lower_compare op kind to a b = load_two true kind a b (Plain (AluTo 5 64 (reg 1) (in_reg 0)) ∷ Plain (Set (condition op (is_signed kind)) (in_reg 0)) ∷ Plain (Movzx 8 (reg 0) (in_reg 0)) ∷ put (p.home to) 0 ∷ [])
 
   abbrev pub lower_give : Option ℕ → Option ℕ → List Piece
   lower_give (Some from) None = get 0 (p.home from) ∷ Go p.exit ∷ []
@@ -206,8 +209,8 @@ module _ (p : Plan) where
   abbrev pub lower : FatStep → List Piece
   lower (s.Const to n) = Plain (MovImm 64 (reg 0) (word_imm n)) ∷ put (p.home to) 0 ∷ []
   lower (s.Copy to from) = if p.is_bounds to then get_bounds 0 (p.home from) ∷ put_bounds (p.home to) 0 ∷ [] else get 0 (p.home from) ∷ put (p.home to) 0 ∷ []
-  lower (s.Arith to op kind a b) = lower_arith (arithmetic_at op) kind to a b
-  lower (s.Compare to op kind a b) = lower_compare (comparison_at op) kind to a b
+  lower (s.Arith to op kind a b) = lower_arith op kind to a b
+  lower (s.Compare to op kind a b) = lower_compare op kind to a b
   lower (s.Extend to from kind) = get 0 (p.home from) ∷ Plain (extend_instr kind 0) ∷ put (p.home to) 0 ∷ []
   lower (s.Place to bounds symbol offset size) = place_piece symbol ∷ Plain (Lea (reg 0) (based 0 (pos offset))) ∷ put (p.home to) 0 ∷ bounds_piece symbol size ∷ put_bounds (p.home bounds) 0 ∷ []
   lower (s.Make to q n) = get 0 (p.home q) ∷ get 1 (p.home n) ∷ Plain (Bndmk 0 (indexed 0 1 1 (negsuc 0))) ∷ put_bounds (p.home to) 0 ∷ []
@@ -222,5 +225,5 @@ module _ (p : Plan) where
   lower (s.Jump n) = Go n ∷ []
   lower (s.JumpIf from n) = get 0 (p.home from) ∷ Plain (Test 64 (reg 0) (in_reg 0)) ∷ GoIf 5 n ∷ []
   lower (s.Call symbol args to bounds) = load_args args 0 0 ++ (CallTo symbol ∷ put_number_at to (put_pair_at bounds))
-  lower (s.Service number arg to) = word_arg arg ∷ Plain (MovImm 64 (reg 0) (pos (service_number number))) ∷ Serve ∷ put_number_at to []
+  lower (s.Service service arg to) = word_arg arg ∷ Plain (MovImm 64 (reg 0) (pos (service_number service))) ∷ Serve ∷ put_number_at to []
   lower (s.Give from bounds) = lower_give from bounds
