@@ -23,7 +23,7 @@ abbrev rest_of : List ℕ → List ℕ
 rest_of [] = []
 rest_of (x ∷ xs) = xs
 
-list_parts : (m : Bytes) (a : ℕ) (xs ys : List ℕ) → list_at (length (xs ++ ys)) m a ≡ xs ++ ys → (list_at (length xs) m a ≡ xs) × (list_at (length ys) m (a + length xs) ≡ ys)
+pub list_parts : (m : Bytes) (a : ℕ) (xs ys : List ℕ) → list_at (length (xs ++ ys)) m a ≡ xs ++ ys → (list_at (length xs) m a ≡ xs) × (list_at (length ys) m (a + length xs) ≡ ys)
 unfolding list_at
 list_parts m a [] ys e = let f : a ≡ a + 0 = omega arith in (refl, subst (λ (b : ℕ). list_at (length ys) m b ≡ ys) f e)
 list_parts m a (x ∷ xs) ys e =

@@ -1,0 +1,12 @@
+pub mod Sized
+pub mod Words
+pub mod Registers
+pub mod Bridge
+pub mod Enter
+pub mod Leave
+pub mod Homed
+pub mod Homing
+pub mod Functions
+pub mod Written
+pub mod Whole
+pub mod Example

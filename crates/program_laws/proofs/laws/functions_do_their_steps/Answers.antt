@@ -1,0 +1,8 @@
+use Rattle.program_laws.proofs.Whole.{lowered, full}
+use Rattle.program_laws.proofs.laws.functions_do_their_steps.Goals as goal
+
+pub returns-clause-deeper : goal.returns-clause-deeper
+returns-clause-deeper c = lowered
+
+pub returns-clause-deepest : goal.returns-clause-deepest
+returns-clause-deepest c = full

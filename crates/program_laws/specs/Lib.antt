@@ -1,0 +1,4 @@
+pub mod Borders
+pub mod Functions
+pub mod Entering
+pub mod Examples
