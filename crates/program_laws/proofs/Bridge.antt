@@ -1,17 +1,16 @@
 -- One relation seen from both sides: the border of calls, and what the code of a function sees.
 use Rattle.mx_base.specs.StopOfC.{AccessOfC}
-use Rattle.call_sigs.specs.Signatures.{Signature, Result, Nothing, Pointer, Of, parameter_register}
+use Rattle.call_sigs.specs.Signatures.{Signature, Result, Nothing, Pointer, Of}
 use Rattle.call_gates.specs.Gates.{way}
 use Rattle.gate_laws.specs.Moments.{Moment, Final}
 use Rattle.obj_file.specs.Finals.{final}
 use Rattle.code_laws.specs.Views.{View}
 use Rattle.step_code.specs.Pieces.{relative}
-use Rattle.code_laws.specs.Seen.{Setting, IsSetting, Seen, state_of}
-use Rattle.step_code.specs.Steps.{Plan, arg_reg}
+use Rattle.code_laws.specs.Seen.{Setting, IsSetting, Seen}
+use Rattle.step_code.specs.Steps.{Plan}
 use Rattle.code_laws.specs.Runs.{whole, whole_of, Ready, ArgsStand}
 use Rattle.step_code.proofs.Sizes.{four_bytes}
-use Rattle.std.specs.Prelude.{IsTrue}
-use Rattle.std.proofs.Common.{◌≡◌, ℕ, zero, suc, ◌+◌, ◌-◌, ◌*◌, ◌^◌, ◌<◌, ◌≤◌, ◌⊎◌, inl, inr, Bool, true, false, Option, None, Some, List, [], ◌∷◌, ◌++◌, length, refl, arith, ap, ◌∙◌, sym, subst}
+use Rattle.std.proofs.Common.{◌≡◌, ℕ, suc, ◌+◌, ◌*◌, ◌<◌, ◌≤◌, inl, inr, Bool, true, Option, None, Some, List, [], ◌∷◌, length, refl, arith, ap, ◌∙◌, sym, subst}
 use Rattle.std.proofs.lemmas.Bool.{and_parts}
 use Rattle.std.proofs.lemmas.Bool.Decides.{nat_tests}
 use Rattle.program_laws.specs.Borders.{moment_of, setting_of}
@@ -19,23 +18,22 @@ use Rattle.program_laws.specs.Functions.{signature_of, entry_of, entries_of, is_
 use Rattle.std.specs.Prelude.{nat_lt}
 use Rattle.program_laws.proofs.Registers.{same_register}
 use Rattle.mx_base.specs.declared.numbers.IntKind.{IntKind}
-use Rattle.mx_base.specs.Memory.{Bytes, number_at, list_at}
-use Rattle.mx_base.specs.Regions.{instrumented_code, control_stack, region_end, is_in, is_sealed}
+use Rattle.mx_base.specs.Memory.{Bytes, list_at}
+use Rattle.mx_base.specs.Regions.{instrumented_code, control_stack, is_in}
 use Rattle.mx_base.specs.StopOfC.{StopOfC}
-use Rattle.mx_base.specs.World.{World, FarRegisters, Access}
-use Rattle.mx_base.specs.Services.{Guest}
+use Rattle.mx_base.specs.World.{World, FarRegisters}
 use Rattle.mx_base.proofs.MemoryLemmas.{number_at-same}
 use Rattle.x86_forms.specs.declared.instr.Instr.TheVariants.{CallRel}
 use Rattle.x86_forms.specs.Spelling.{spelling, prefix_bytes, rex_bytes, escape_bytes, operand_bytes, forces_rex, rex_bits, high_bits}
-use Rattle.obj_file.specs.Machine.{Reading, IsReader, State}
+use Rattle.obj_file.specs.Machine.{IsReader}
 use Rattle.obj_file.specs.Runs.{End, Out, Stopped}
 use Rattle.obj_file.specs.Stored.{Stored}
 use Rattle.fat_ir.specs.Values.{Value}
 use Rattle.fat_ir.specs.Calls.{Callee, Outcome, Comes, Stops, Stuck}
 use Rattle.fat_ir.specs.Laws.{Leaves, LeftByCalls, NoMoreTurns}
 use Rattle.fat_ir.specs.Functions.{Linked, Target, OfC, Outside, call_of, symbols_of}
-use Rattle.legacy_calls.specs.Legacy.{Linkage, ground, far_of}
-use Rattle.gate_laws.specs.Standing.{EndsAs, EndIs, Stands, AtCall, Arrive, HasRoom, Back, CallEnds, Calls, Holds}
+use Rattle.legacy_calls.specs.Legacy.{Linkage, ground}
+use Rattle.gate_laws.specs.Standing.{EndsAs, EndIs, Stands, AtCall, Arrive, Back, CallEnds, Calls, Holds}
 use Rattle.gate_laws.specs.Placed.{StandsAt}
 use Rattle.gate_laws.proofs.Placing.{stands_by_bytes}
 use Rattle.mx_base.specs.Guests.{GuestFits}
@@ -166,6 +164,7 @@ module _ (k : Linkage) (image : Bytes) (places : ℕ → Option AccessOfC) (read
     (ok : IsSetting (setting_of k image frozen sp units depth label_at (entries_of inner stub l))) (d : ℕ) (deep : depth + d ≡ 4096) (room : control_stack.from + 4088 * d + 112 ≤ sp) where
   abbrev entry_at : ℕ → ℕ
   entry_at = entries_of inner stub l
+
   abbrev T : Setting
   T = setting_of k image frozen sp units depth label_at entry_at
 
@@ -184,14 +183,16 @@ module _ (k : Linkage) (image : Bytes) (places : ℕ → Option AccessOfC) (read
       let high = st.high in
       let seen = h.seen in
       let stack = seen.stack in
-      let top = ok.high in
-      (at, record {
-        stands = stands_there k image places frozen sp units depth label_at entry_at v y n d seen deep;
-        here = subst (λ (z : ℕ). StandsAt k image v.processor.rip (CallRel true (way target z)) 6) at (stands_by_bytes k reader image v.processor.rip (CallRel true (relative target next)) 6 (inside_code v.processor.rip low (omega arith)) (omega arith) st.valid size
-          (subst (λ (z : ℕ). list_at z image v.processor.rip ≡ spelling (CallRel true (relative target next))) size st.bytes));
-        arrive = arrives sig.parameters args xs v 0 0 takes stand;
-        room = (omega arith, omega arith);
-      })
+      let top = ok.high in (
+        at,
+        record {
+          stands = stands_there k image places frozen sp units depth label_at entry_at v y n d seen deep;
+          here = subst (λ (z : ℕ). StandsAt k image v.processor.rip (CallRel true (way target z)) 6) at (stands_by_bytes k reader image v.processor.rip (CallRel true (relative target next)) 6 (inside_code v.processor.rip low (omega arith)) (omega arith) st.valid size
+              (subst (λ (z : ℕ). list_at z image v.processor.rip ≡ spelling (CallRel true (relative target next))) size st.bytes));
+          arrive = arrives sig.parameters args xs v 0 0 takes stand;
+          room = (omega arith, omega arith);
+        },
+      )
 
   module _ (p : Plan) (own other : Callee) (calls_own : Calls k image places d 64 k.outers inner k.own own) (calls_other : Calls k image places d 112 k.stubs stub k.legacy other) (left_own : LeftByCalls NoMoreTurns own) (left_other : LeftByCalls NoMoreTurns other) where
     by_target : (t : Target) (pointer : Bool) (args : List (ℕ × Option ℕ)) (xs : List Value) (v : View) (y : Stored) (n next : ℕ) → is_there k t ≡ true → (pointer ≡ true → (signature_of k t).result ≡ Pointer) → are_arguments (signature_of k t).parameters args ≡ true

@@ -1,41 +1,38 @@
 -- The inner entry of a C function: from its CALL to where its own words begin; or the stop for want of stack.
 use Rattle.mx_base.specs.StopOfC.{AccessOfC}
-use Rattle.call_gates.specs.Gates.{Code, legacy_cell, data_cell, depth_cell}
+use Rattle.call_gates.specs.Gates.{legacy_cell, data_cell, depth_cell}
 use Rattle.call_sigs.specs.Signatures.{Signature, parameter_register}
 use Rattle.gate_laws.specs.Moments.{Moment, Final}
 use Rattle.obj_file.specs.Finals.{final}
 use Rattle.code_laws.specs.Views.{View}
 use Rattle.code_laws.specs.Seen.{Setting, Seen}
-use Rattle.program_laws.proofs.Sized.{Sizes, AreSizes, counts, enters, inner_entry, overflows}
+use Rattle.program_laws.proofs.Sized.{Sizes, AreSizes, counts, enters, overflows}
 use Rattle.mx_base.specs.declared.numbers.IntKind.{IntKind}
-use Rattle.std.specs.Prelude.{nat_eq, nat_lt, not, if◌then◌else◌, pos}
-use Rattle.std.proofs.Common.{◌≡◌, ℕ, zero, suc, ◌+◌, ◌-◌, ◌*◌, ◌^◌, ◌%◌, ◌<◌, ◌≤◌, ◌⊎◌, inl, inr, Bool, true, false, cond, Option, None, Some, List, [], ◌∷◌, ◌++◌, refl, arith, ap, ◌∙◌, sym, subst}
+use Rattle.std.proofs.Common.{◌≡◌, ℕ, suc, ◌+◌, ◌-◌, ◌*◌, ◌^◌, ◌<◌, ◌≤◌, inl, inr, true, Option, None, Some, List, [], ◌∷◌, refl, arith, ap, ◌∙◌, sym, subst}
 use Rattle.std.proofs.lemmas.Bool.Decides.{nat_tests}
 use Rattle.mx_base.specs.declared.stops.Stop.TheVariants as stop
-use Rattle.mx_base.specs.Memory.{Bytes, AreBytes, number_at}
-use Rattle.mx_base.specs.Regions.{instrumented_code, control_stack, data_stack, is_in, is_sealed}
-use Rattle.mx_base.specs.StopOfC.{StopOfC, OutOfTurns, StackOver}
-use Rattle.mx_base.specs.World.{World, FarRegisters, Access}
+use Rattle.mx_base.specs.Memory.{Bytes, number_at}
+use Rattle.mx_base.specs.Regions.{instrumented_code, is_in}
+use Rattle.mx_base.specs.StopOfC.{OutOfTurns, StackOver}
+use Rattle.mx_base.specs.World.{World, FarRegisters}
 use Rattle.mx_base.proofs.MemoryLemmas.{number_at-lt}
 use Rattle.obj_file.proofs.StoredBytes.{with_number_apart, number_apart, word_back}
-use Rattle.x86_forms.specs.declared.instr.Instr.TheVariants.{CallRel}
-use Rattle.x86_forms.specs.Arithmetic.{Flags, holds}
 use Rattle.x86_forms.specs.Processor.{Processor, with_reg}
 use Rattle.obj_file.specs.Machine.{State}
-use Rattle.obj_file.specs.Runs.{End, Out, Stopped}
+use Rattle.obj_file.specs.Runs.{Out, Stopped}
 use Rattle.obj_file.specs.Stored.{Stored}
 use Rattle.fat_ir.specs.Values.{Value}
 use Rattle.fat_ir.specs.Calls.{with_turns, with_data_sp}
 use Rattle.mx_base.specs.Guests.{GuestFits}
-use Rattle.legacy_calls.specs.Legacy.{Linkage, ground, far_of}
-use Rattle.gate_laws.specs.Placed.{HasCode, IsPlaced, StandsAt}
+use Rattle.legacy_calls.specs.Legacy.{Linkage, ground}
+use Rattle.gate_laws.specs.Placed.{HasCode, IsPlaced}
 use Rattle.gate_laws.specs.Standing.{EndsAs, AtCall, Arrive}
 use Rattle.gate_laws.specs.Effects.{end_of}
 use Rattle.gate_laws.proofs.Walks.{written, IsOwn, code_kept, here, Leads, then_on, load_leads, store_leads}
-use Rattle.gate_laws.proofs.Straight.{set_leads, words_stay, placed_front, placed_back}
+use Rattle.gate_laws.proofs.Straight.{set_leads, words_stay}
 use Rattle.gate_laws.proofs.Turns.{Turns, call_turns, stop_there}
 use Rattle.gate_laws.proofs.Entry.{own_cell, open_kept, by_parameter}
-use Rattle.program_laws.specs.Borders.{moment_of, setting_of}
+use Rattle.program_laws.specs.Borders.{setting_of}
 use Rattle.program_laws.proofs.Words.{added_flags, taken_flags, compared_flags, is_below, not_below, is_least, not_least, add_leads, take_leads, compare_leads, hop_over, hop_not, tidy_overflow, overflows_there}
 
 code_bytes : (a : ℕ) → 0x0100_0000 ≤ a → a < 0x1100_0000 → is_in instrumented_code a ≡ true
@@ -47,39 +44,52 @@ code_low a h = grind (arith, nat_tests)
 module _ (k : Linkage) (image : Bytes) (places : ℕ → Option AccessOfC) (inner : ℕ) (small_inner : inner < 2 ^ 62) (sig : Signature) (args : List Value) (w : World) (m : Moment) (d : ℕ) (call : AtCall k image d 64 inner sig args w m) where
   abbrev F : Moment → Final
   F x = final (ground k) x
+
   abbrev c : Processor
   c = m.state.processor
+
   abbrev y : Stored
   y = m.state.memory
+
   abbrev pub next : ℕ
   next = c.rip + 6
+
   abbrev pub s : ℕ
   s = c.regs 4 - 8
+
   abbrev pub D : ℕ
   D = number_at 8 y.bytes depth_cell
+
   abbrev pub y1 : Stored
   y1 = written y s next
+
   abbrev r1 : ℕ → ℕ
   r1 = with_reg c.regs 4 s
+
   abbrev c1 : Processor
   c1 = record c { rip = inner; regs = r1 }
 
   pub low_s : 0x7100_0000 + 4088 * d + 56 ≤ s
   low_s = let r = call.room.0 in omega arith
+
   pub high_s : s + 8 ≤ 0x7200_0000
   high_s = let r = call.room.0 in let h = call.room.1 in omega arith
+
   pub s_is : c.regs 4 ≡ s + 8
   s_is = let r = call.room.0 in omega arith
 
   own_s : IsOwn s
   own_s = let l = low_s in let h = high_s in record { low = omega arith; place = inr (omega arith); high = omega arith }
+
   own_n : IsOwn depth_cell
   own_n = own_cell depth_cell (omega arith) (omega arith)
+
   own_d : IsOwn data_cell
   own_d = own_cell data_cell (omega arith) (omega arith)
 
   code : HasCode image y
   code = record { each_byte = call.stands.shares.each_byte; code = call.stands.code }
+
   pub code1 : HasCode image y1
   code1 = code_kept image y s next own_s code
 
@@ -124,8 +134,10 @@ module _ (k : Linkage) (image : Bytes) (places : ℕ → Option AccessOfC) (inne
   module _ (z : Sizes) (sized : AreSizes z) (placed : IsPlaced k image inner (counts z)) where
     abbrev r2 : ℕ → ℕ
     r2 = with_reg r1 0 D
+
     abbrev c2 : Processor
     c2 = record c { rip = inner + 8; regs = r2 }
+
     abbrev c3 : Processor
     c3 = record c { rip = inner + 8 + z.depth_compared; regs = r2; flags = compared_flags 0 4096 c2 }
 
@@ -154,43 +166,61 @@ module _ (k : Linkage) (image : Bytes) (places : ℕ → Option AccessOfC) (inne
     module _ (some : 0 < d) (frame units : ℕ) (small_frame : frame ≤ 0x0400_0000) (small_units : 8 * units ≤ 4032) (placed2 : IsPlaced k image a4 (enters z frame units)) where
       abbrev V : ℕ
       V = w.data_sp
+
       abbrev c4 : Processor
       c4 = record c { rip = a4; regs = r2; flags = compared_flags 0 4096 c2 }
+
       abbrev r5 : ℕ → ℕ
       r5 = with_reg r2 0 (D + 1)
+
       abbrev c5 : Processor
       c5 = record c { rip = a4 + z.one_added; regs = r5; flags = added_flags 0 1 c4 }
+
       abbrev pub y2 : Stored
       y2 = written y1 depth_cell (D + 1)
+
       abbrev c6 : Processor
       c6 = record c5 { rip = a4 + z.one_added + 8 }
+
       abbrev r7 : ℕ → ℕ
       r7 = with_reg r5 0 V
+
       abbrev c7 : Processor
       c7 = record c5 { rip = a4 + z.one_added + 8 + 8; regs = r7 }
+
       abbrev c8 : Processor
       c8 = record c7 { rip = a4 + z.one_added + 8 + 8 + z.room_compared; flags = compared_flags 0 (0x5000_0000 + frame) c7 }
+
       abbrev a9 : ℕ
       a9 = a4 + z.one_added + 8 + 8 + z.room_compared + 7 + 5 + 2
+
       abbrev c9 : Processor
       c9 = record c8 { rip = a9 }
+
       abbrev r10 : ℕ → ℕ
       r10 = with_reg r7 0 (V - frame)
+
       abbrev c10 : Processor
       c10 = record c9 { rip = a9 + z.frame_taken; regs = r10; flags = taken_flags 0 frame c9 }
+
       abbrev pub y3 : Stored
       y3 = written y2 data_cell (V - frame)
+
       abbrev c11 : Processor
       c11 = record c10 { rip = a9 + z.frame_taken + 8 }
+
       abbrev pub sp : ℕ
       sp = s - 8 * units
+
       abbrev r12 : ℕ → ℕ
       r12 = with_reg r10 4 sp
+
       abbrev pub c12 : Processor
       c12 = record c11 { rip = a9 + z.frame_taken + 8 + z.words_taken; regs = r12; flags = taken_flags 4 (8 * units) c11 }
 
       code2 : HasCode image y2
       code2 = code_kept image y1 depth_cell (D + 1) own_n code1
+
       pub code3 : HasCode image y3
       code3 = code_kept image y2 data_cell (V - frame) own_d code2
 

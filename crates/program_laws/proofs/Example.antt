@@ -1,7 +1,6 @@
 -- All that is asked is met by a whole image of two C functions, one of which takes a pointer.
-use Rattle.std.specs.Prelude.{nat_lt, nat_eq, not, if◌then◌else◌, slice_index_or}
-use Rattle.std.proofs.Common.{◌≡◌, ◌≢◌, ℕ, zero, suc, ◌+◌, ◌<◌, ◌≤◌, ◌==◌, Bool, true, false, Option, None, Some, List, [], ◌∷◌, ◌++◌, length, inl, inr, refl, arith, ap, ◌∙◌, sym, subst}
-use Rattle.std.proofs.lemmas.Bool.{cond_both}
+use Rattle.std.specs.Prelude.{nat_lt, nat_eq, if◌then◌else◌, slice_index_or}
+use Rattle.std.proofs.Common.{◌≡◌, ◌≢◌, ℕ, zero, suc, ◌+◌, ◌<◌, ◌≤◌, ◌==◌, Bool, true, false, Option, None, Some, List, [], ◌∷◌, ◌++◌, inl, inr, refl, arith, ap, ◌∙◌}
 use Rattle.std.proofs.lemmas.Bool.Decides.{nat_tests}
 use Rattle.mx_base.specs.BoundsStore.{empty_store}
 use Rattle.mx_base.specs.Guests.{InputFits}
@@ -9,29 +8,28 @@ use Rattle.mx_base.specs.Access.{refusal}
 use Rattle.mx_base.specs.Bounds.{leaving_value, moved, bounds_at, last_byte}
 use Rattle.mx_base.specs.Memory.{Bytes, list_at, number_at, with_number, first_refused, first_refused_around}
 use Rattle.mx_base.specs.Numbers.{as_signed, extended, word_of, residue, value_of, number_of}
-use Rattle.mx_base.specs.Regions.{instrumented_code, is_in, is_sealed, is_open_to_write, is_open_to_read}
+use Rattle.mx_base.specs.Regions.{is_sealed, is_open_to_write, is_open_to_read}
 use Rattle.mx_base.specs.StopOfC.{AccessOfC, Exit}
 use Rattle.mx_base.specs.World.{world_at_start}
-use Rattle.x86_forms.specs.Spelling.{spelling, low_bytes, mod_of, disp_bytes, scale_code, modrm, sib, over_base, mem_bytes, rm_bytes, index_high, base_high, rm_high, high_bits, is_low, rm_is_low, forces_rex, rex_bits, rex_bytes, prefix_bytes, escape_bytes, operand_bytes}
+use Rattle.x86_forms.specs.Spelling.{low_bytes, mod_of, disp_bytes, scale_code, modrm, sib, over_base, mem_bytes, rm_bytes, index_high, base_high, rm_high, high_bits, is_low, rm_is_low, forces_rex, rex_bits, rex_bytes, prefix_bytes, escape_bytes, operand_bytes}
 use Rattle.x86_forms.specs.Watch.{is_legacy}
 use Rattle.obj_file.specs.Machine.{Reading, IsReader}
 use Rattle.obj_file.specs.Stored.{Stored}
 use Rattle.fat_ir.specs.declared.step.FatStep.{FatStep}
 use Rattle.fat_ir.specs.declared.step.FatStep.TheVariants.{Label}
 use Rattle.fat_ir.specs.Functions.{program_run}
-use Rattle.step_code.specs.Pieces.{Home, Reg, Slot, Bnd}
 use Rattle.step_code.specs.Steps.{arg_reg}
 use Rattle.step_code.specs.Homes.{Assigned, Apart, IsNumberHome, IsPairHome, IsSlot}
-use Rattle.step_code.specs.Functions.{Layout, IsWritten, HomesFit, return_at, past_function}
+use Rattle.step_code.specs.Functions.{IsWritten, HomesFit, past_function}
 use Rattle.call_gates.specs.Gates.{start_gate, start_at, landing_gate, landing_at, outer_gate, stub_gate}
 use Rattle.legacy_calls.specs.Legacy.{Linkage, outside}
 use Rattle.gate_laws.specs.Crossings.{ProgramEnds}
 use Rattle.gate_laws.specs.Moments.{moment_at_start}
-use Rattle.gate_laws.specs.Owed.{IsLinked, IsLoaded, IsOuter}
+use Rattle.gate_laws.specs.Owed.{IsLinked, IsOuter}
 use Rattle.gate_laws.specs.Placed.{HasCode, IsPlaced}
 use Rattle.gate_laws.proofs.Placing.{placed_by_bytes}
 use Rattle.program_laws.specs.Functions.{IsFunction, AreFunctions, entries_of}
-use Rattle.program_laws.specs.Examples.{main_steps, f_steps, linked_main, linked_f, program, is_bounds, homes_of_main, homes_of_f, first_of, last_of, main_at, f_at, stub_at, plan_of, end_of_main, end_of_f, layout_of_main, layout_of_f, signature_of_main, signature_of_f, signatures, inner_at, stubs_at, linkage, bytes_of_main, bytes_of_f, image, places, why_of}
+use Rattle.program_laws.specs.Examples.{main_steps, f_steps, linked_main, linked_f, program, is_bounds, homes_of_main, homes_of_f, first_of, last_of, main_at, f_at, stub_at, plan_of, layout_of_main, layout_of_f, signature_of_main, signature_of_f, inner_at, stubs_at, linkage, image, places, why_of}
 use Rattle.program_laws.proofs.Whole.{program_does}
 
 -- ---- homes
@@ -160,7 +158,12 @@ not_rdi (suc (suc n)) from to = absurd (omega arith)
 
 f_homes : HomesFit f_steps linked_f.parameters layout_of_f signature_of_f.parameters 1
 f_homes = record {
-  few_words = omega arith; few_bytes = omega arith; assigned = f_assigned; sorts = sorts_of_f; few_taken = omega arith; clear = λ x from few. absurd (omega arith);
+  few_words = omega arith;
+  few_bytes = omega arith;
+  assigned = f_assigned;
+  sorts = sorts_of_f;
+  few_taken = omega arith;
+  clear = λ x from few. absurd (omega arith);
   arguments = ((omega arith, refl, not_rdi), (((omega arith, refl, λ j from to. absurd (omega arith)), (omega arith, refl, λ t from to. absurd (omega arith))), tt));
 }
 
@@ -173,11 +176,14 @@ main_past = omega arith
 main_written : IsWritten main_steps [] layout_of_main image places (entries_of inner_at stubs_at linked_main) main_at
 unfolding list_at low_bytes mod_of disp_bytes scale_code modrm sib over_base mem_bytes rm_bytes index_high base_high rm_high high_bits is_low rm_is_low forces_rex rex_bits rex_bytes prefix_bytes escape_bytes operand_bytes as_signed
 main_written = record {
-  low = omega arith; high = main_past; bytes = refl;
+  low = omega arith;
+  high = main_past;
+  bytes = refl;
   homing_valid = (refl, tt);
   steps_valid = ((refl, (refl, (refl, (refl, (refl, tt))))), ((refl, (refl, tt)), ((refl, (refl, (refl, (refl, tt)))), ((refl, (refl, (refl, tt))), ((refl, (refl, (refl, (refl, (refl, tt))))), ((refl, (refl, tt)), tt))))));
   here = (tt, (tt, ((refl, refl), (tt, (tt, (tt, tt))))));
-  exit = refl; small_labels = λ n. omega arith;
+  exit = refl;
+  small_labels = λ n. omega arith;
 }
 
 f_past : past_function f_steps linked_f.parameters layout_of_f f_at ≤ 0x1100_0000
@@ -187,11 +193,14 @@ f_past = omega arith
 f_written : IsWritten f_steps linked_f.parameters layout_of_f image places (entries_of inner_at stubs_at linked_f) f_at
 unfolding list_at low_bytes mod_of disp_bytes scale_code modrm sib over_base mem_bytes rm_bytes index_high base_high rm_high high_bits is_low rm_is_low forces_rex rex_bits rex_bytes prefix_bytes escape_bytes operand_bytes as_signed
 f_written = record {
-  low = omega arith; high = f_past; bytes = refl;
+  low = omega arith;
+  high = f_past;
+  bytes = refl;
   homing_valid = (refl, (refl, (refl, (refl, tt))));
   steps_valid = ((refl, (refl, (refl, (refl, tt)))), ((refl, (refl, (refl, tt))), ((refl, (refl, tt)), tt)));
   here = ((refl, refl), (tt, (tt, tt)));
-  exit = refl; small_labels = λ n. omega arith;
+  exit = refl;
+  small_labels = λ n. omega arith;
 }
 
 -- no check stands in legacy code
@@ -214,23 +223,41 @@ module _ (reads : List ℕ → Reading) (preserve : Bool) where
 
   main_is : IsFunction k image places inner_at stubs_at linked_main 0
   main_is = record {
-    layout = layout_of_main; written = main_written; homes = main_homes; pointer = λ e. absurd (cc);
+    layout = layout_of_main;
+    written = main_written;
+    homes = main_homes;
+    pointer = λ e. absurd (cc);
     steps = (
       ((omega arith, omega arith), (omega arith, omega arith), refl, refl, omega arith, omega arith, (refl, omega arith)),
-      (((omega arith, omega arith), refl, omega arith),
-      (((omega arith, omega arith), (omega arith, omega arith), omega arith, omega arith),
-      (((omega arith, omega arith), (omega arith, omega arith)),
-      ((((omega arith, omega arith), ((omega arith, omega arith), (omega arith, omega arith), tt)), omega arith, ((omega arith, omega arith), refl), tt, (λ s. absurd s), (λ x there. calls_are_slots x), refl),
-      (((omega arith, omega arith), refl), tt))))));
+      (
+        ((omega arith, omega arith), refl, omega arith),
+        (
+          ((omega arith, omega arith), (omega arith, omega arith), omega arith, omega arith),
+          (
+            ((omega arith, omega arith), (omega arith, omega arith)),
+            (
+              (((omega arith, omega arith), ((omega arith, omega arith), (omega arith, omega arith), tt)), omega arith, ((omega arith, omega arith), refl), tt, (λ s. absurd s), (λ x there. calls_are_slots x), refl),
+              (((omega arith, omega arith), refl), tt),
+            ),
+          ),
+        ),
+      ),
+    );
   }
 
   f_is : IsFunction k image places inner_at stubs_at linked_f 1
   f_is = record {
-    layout = layout_of_f; written = f_written; homes = f_homes; pointer = λ e. absurd (cc);
+    layout = layout_of_f;
+    written = f_written;
+    homes = f_homes;
+    pointer = λ e. absurd (cc);
     steps = (
       ((omega arith, omega arith), (omega arith, omega arith), omega arith, omega arith),
-      (((omega arith, omega arith), (omega arith, omega arith), refl),
-      (((omega arith, omega arith), refl), tt)));
+      (
+        ((omega arith, omega arith), (omega arith, omega arith), refl),
+        (((omega arith, omega arith), refl), tt),
+      ),
+    );
   }
 
   pub are_functions : AreFunctions k image places program inner_at stubs_at
@@ -274,7 +301,8 @@ module _ (reads : List ℕ → Reading) (reader : IsReader reads) (preserve : Bo
 
   pub is_linked : IsLinked j image inner_at stubs_at
   is_linked = record {
-    few_outers = omega arith; landing = landing_there;
+    few_outers = omega arith;
+    landing = landing_there;
     stubs = λ g few. record { low = omega arith; high = omega arith; target_low = omega arith; target_high = omega arith; few = omega arith; few_pointers = omega arith; placed = stub_there };
     outers = outers;
   }

@@ -1,45 +1,38 @@
 -- The code of a C function does its steps, one level deeper.
-use Rattle.call_sigs.specs.Signatures.{pointers, Signature, Result, Pointer}
+use Rattle.call_sigs.specs.Signatures.{pointers, Pointer}
 use Rattle.step_code.specs.Homing.{homing, taken, Clear, FineArguments}
 use Rattle.mx_base.specs.StopOfC.{AccessOfC}
-use Rattle.call_gates.specs.Gates.{Code}
 use Rattle.gate_laws.specs.Moments.{Moment, Final}
 use Rattle.obj_file.specs.Finals.{final}
 use Rattle.code_laws.specs.Views.{View}
 use Rattle.code_laws.specs.Seen.{Setting, IsSetting, Seen}
-use Rattle.step_code.specs.Steps.{Plan, end_pieces}
+use Rattle.step_code.specs.Steps.{end_pieces}
 use Rattle.code_laws.specs.Laid.{Laid, StandAll}
 use Rattle.step_code.specs.Homes.{Assigned}
 use Rattle.code_laws.specs.Runs.{In, Leads, whole_of}
 use Rattle.program_laws.proofs.Sized.{Sizes, AreSizes, counts, enters, inner_return}
 use Rattle.program_laws.proofs.Homed.{Homed}
 use Rattle.program_laws.proofs.Homing.{homed as place_homes}
-use Rattle.fat_ir.specs.declared.step.FatStep.{FatStep}
-use Rattle.std.specs.Prelude.{nat_lt, not, if◌then◌else◌, slice_index_or}
-use Rattle.std.proofs.Common.{◌≡◌, ℕ, zero, suc, ◌+◌, ◌-◌, ◌*◌, ◌^◌, ◌<◌, ◌≤◌, ◌⊎◌, inl, inr, Bool, true, false, cond, Option, None, Some, List, [], ◌∷◌, ◌++◌, length, refl, arith, ap, ◌∙◌, sym, subst}
+use Rattle.std.specs.Prelude.{nat_lt, slice_index_or}
+use Rattle.std.proofs.Common.{◌≡◌, ℕ, zero, suc, ◌+◌, ◌-◌, ◌*◌, ◌^◌, ◌<◌, ◌≤◌, true, false, Option, List, length, refl, arith, ap, ◌∙◌, sym, subst}
 use Rattle.std.proofs.lemmas.Bool.{cond_both}
 use Rattle.std.proofs.lemmas.Bool.Decides.{nat_tests}
 use Rattle.mx_base.specs.declared.numbers.IntKind.{IntKind}
 use Rattle.mx_base.specs.Memory.{Bytes, number_at}
-use Rattle.mx_base.specs.Regions.{control_stack, data_stack}
-use Rattle.mx_base.specs.StopOfC.{StopOfC, OutOfTurns, StackOver}
+use Rattle.mx_base.specs.Regions.{data_stack}
 use Rattle.mx_base.specs.World.{World}
-use Rattle.mx_base.proofs.MemoryLemmas.{number_at-lt, number_at-same}
-use Rattle.obj_file.proofs.StoredBytes.{with_number_apart, number_apart, word_back}
+use Rattle.mx_base.proofs.MemoryLemmas.{number_at-lt}
 use Rattle.x86_forms.specs.Watch.{is_in_outer}
 use Rattle.obj_file.specs.Machine.{IsReader}
 use Rattle.obj_file.specs.Stored.{Stored}
-use Rattle.fat_ir.specs.Values.{Value, Values}
+use Rattle.fat_ir.specs.Values.{Value}
 use Rattle.fat_ir.specs.Calls.{Callee, Outcome, Comes, Stops, Stuck, with_turns, with_data_sp, turn_from, taking_turn, entering, returning}
-use Rattle.fat_ir.specs.Step.{Next}
-use Rattle.fat_ir.specs.Run.{steps_run}
-use Rattle.fat_ir.specs.Functions.{Linked, Parameter, body_run, symbols_of, values_at_entry, calls}
-use Rattle.fat_ir.specs.Laws.{Leads as WorldLeads, Leaves, LeftByCalls, NoMoreTurns, FramesGivenBack, SameFrame, Anywhere}
+use Rattle.fat_ir.specs.Functions.{Linked, body_run, symbols_of, values_at_entry}
+use Rattle.fat_ir.specs.Laws.{Leads as WorldLeads, LeftByCalls, NoMoreTurns, SameFrame, Anywhere}
 use Rattle.legacy_calls.specs.Legacy.{Linkage, ground}
 use Rattle.gate_laws.specs.Placed.{IsPlaced}
-use Rattle.gate_laws.specs.Standing.{EndsAs, AtCall, Arrive, CallEnds, Calls}
+use Rattle.gate_laws.specs.Standing.{AtCall, Arrive, CallEnds, Calls}
 use Rattle.gate_laws.specs.Effects.{end_of}
-use Rattle.gate_laws.specs.Crossings.{deeper}
 use Rattle.code_laws.proofs.Core.{function_goes}
 use Rattle.step_code.specs.Asked.{FineSteps}
 use Rattle.program_laws.specs.Functions.{entries_of, returns_in, takes_in}
@@ -86,31 +79,41 @@ module _ (k : Linkage) (image : Bytes) (places : ℕ → Option AccessOfC) (read
     (d : ℕ) (args : List Value) (w : World) (m : Moment) (call : AtCall k image (suc d) 64 (inner f) (k.own f) args w m) where
   abbrev F : Moment → Final
   F x = final (ground k) x
+
   abbrev frame : ℕ
   frame = l.fun.frame
+
   abbrev V : ℕ
   V = w.data_sp
+
   abbrev Goal : Outcome → Type 0
   Goal o = CallEnds k image places (suc d) (k.own f).result m o
 
   low_s : 0x7100_0000 + 4088 * suc d + 56 ≤ enter.s k image places (inner f) fn.small (k.own f) args w m (suc d) call
   low_s = enter.low_s k image places (inner f) fn.small (k.own f) args w m (suc d) call
+
   high_s : enter.s k image places (inner f) fn.small (k.own f) args w m (suc d) call + 8 ≤ 0x7200_0000
   high_s = enter.high_s k image places (inner f) fn.small (k.own f) args w m (suc d) call
 
   module _ (j : ℕ) (turns : w.turns ≡ suc j) (room : 0x5000_0000 + frame ≤ V) where
     abbrev s : ℕ
     s = enter.s k image places (inner f) fn.small (k.own f) args w m (suc d) call
+
     abbrev D : ℕ
     D = enter.D k image places (inner f) fn.small (k.own f) args w m (suc d) call
+
     abbrev y3 : Stored
     y3 = enter.y3 k image places (inner f) fn.small (k.own f) args w m (suc d) call fn.sizes fn.sized fn.counts_placed (omega arith) frame fn.layout.units fn.few_bytes fn.few_words fn.enters_placed
+
     abbrev sp : ℕ
     sp = s - 8 * fn.layout.units
+
     abbrev U : Setting
     U = setting_of k image y3.bytes sp fn.layout.units (D + 1) fn.layout.label_at (entries_of inner stub l)
+
     abbrev v0 : View
     v0 = enter.view k image places (inner f) fn.small (k.own f) args w m (suc d) call fn.sizes fn.sized fn.counts_placed (omega arith) frame fn.layout.units fn.few_bytes fn.few_words fn.enters_placed room j
+
     abbrev x0 : World
     x0 = with_data_sp (V - frame) (with_turns j w)
 
@@ -143,10 +146,18 @@ module _ (k : Linkage) (image : Bytes) (places : ℕ → Option AccessOfC) (read
         let went = reached in
         let h = homed went.0 in
         record {
-          view = h.view; memory = h.leads.memory; steps = h.leads.steps; frozen = y3.bytes; sp = sp; depth = D + 1;
+          view = h.view;
+          memory = h.leads.memory;
+          steps = h.leads.steps;
+          frozen = y3.bytes;
+          sp = sp;
+          depth = D + 1;
           same = went.1 ∙ sym (as_final k image places y3.bytes sp fn.layout.units (D + 1) fn.layout.label_at (entries_of inner stub l) v0 y3 went.0) ∙ h.leads.same
               ∙ as_final k image places y3.bytes sp fn.layout.units (D + 1) fn.layout.label_at (entries_of inner stub l) h.view h.leads.memory h.leads.steps;
-          at = h.at; world = h.world; seen = h.leads.seen; values = h.values;
+          at = h.at;
+          world = h.world;
+          seen = h.leads.seen;
+          values = h.values;
         }
 
     address_there : number_at 8 y3.bytes s ≡ m.state.processor.rip + 6
@@ -171,8 +182,8 @@ module _ (k : Linkage) (image : Bytes) (places : ℕ → Option AccessOfC) (read
           let same : F m ≡ whole_of U h.view h.leads.memory h.leads.steps = there ∙ sym (as_final k image places y3.bytes sp fn.layout.units (D + 1) fn.layout.label_at (entries_of inner stub l) v0 y3 n) ∙ h.leads.same in
           subst (λ (g : Final). core.Ends U fn.layout.plan places g (body_run l own other args x0)) (sym same)
           (subst (λ (u : World). core.Ends U fn.layout.plan places (whole_of U h.view h.leads.memory h.leads.steps) (body_run l own other args u)) h.world
-            (function_goes U ok fn.layout.plan places (symbols_of l own other) l.fun.private l.fun.steps fn.layout.first fn.layout.last fn.assigned fn.base fn.end fn.laid fn.tail (returns_in k l) (takes_in k l) calls_here
-              fn.fine (values_at_entry l.fun l.parameters args) h.view h.leads.memory h.leads.steps h.leads.seen h.values h.at))
+          (function_goes U ok fn.layout.plan places (symbols_of l own other) l.fun.private l.fun.steps fn.layout.first fn.layout.last fn.assigned fn.base fn.end fn.laid fn.tail (returns_in k l) (takes_in k l) calls_here
+          fn.fine (values_at_entry l.fun l.parameters args) h.view h.leads.memory h.leads.steps h.leads.seen h.values h.at))
 
       after : (o : Outcome) → WorldLeads (SameFrame x0) (Anywhere x0) o → core.Ends U fn.layout.plan places (F m) o → Goal (returning V o)
       after Stuck same h = tt
@@ -185,9 +196,9 @@ module _ (k : Linkage) (image : Bytes) (places : ℕ → Option AccessOfC) (read
           let data_is : r.world.data_sp + frame ≡ V = let e = ap (λ (u : World). u.data_sp) q.world in let g = same in omega arith in
           subst (λ (u : World). Goal (turn_from u.turns u (λ x. Comes value (with_data_sp V x)))) q.world
           (leaves k image places y3.bytes s fn.layout.units D frame (m.state.processor.rip + 6) d fn.layout.label_at (entries_of inner stub l) (omega arith) hi deep (omega arith) address_there fn.few_bytes fn.sizes fn.sized
-            r q.leads.memory q.leads.seen (subst (λ (a : ℕ). IsPlaced k image a (inner_return fn.sizes frame fn.layout.units)) (sym q.at) fn.returns_placed) V data_is small_v
-            (subst (λ (a : ℕ). is_in_outer k.outers (a + 8 + fn.sizes.frame_given + 8 + 8 + fn.sizes.one_taken + 8 + fn.sizes.words_given) ≡ false) (sym q.at) fn.away)
-            m q.leads.steps there (enter.s_is k image places (inner f) fn.small (k.own f) args w m (suc d) call) refl kept_there (k.own f).result value q.number (λ e. q.bounds (fn.pointer e)))
+          r q.leads.memory q.leads.seen (subst (λ (a : ℕ). IsPlaced k image a (inner_return fn.sizes frame fn.layout.units)) (sym q.at) fn.returns_placed) V data_is small_v
+          (subst (λ (a : ℕ). is_in_outer k.outers (a + 8 + fn.sizes.frame_given + 8 + 8 + fn.sizes.one_taken + 8 + fn.sizes.words_given) ≡ false) (sym q.at) fn.away)
+          m q.leads.steps there (enter.s_is k image places (inner f) fn.small (k.own f) args w m (suc d) call) refl kept_there (k.own f).result value q.number (λ e. q.bounds (fn.pointer e)))
 
       with_room : Goal (returning V (body_run l own other args x0))
       with_room = let went = reached in after (body_run l own other args x0) (keeps args x0) (body_ends went.0 went.1)

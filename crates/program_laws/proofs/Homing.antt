@@ -3,20 +3,22 @@ use Rattle.call_sigs.specs.Signatures.{pointers}
 use Rattle.step_code.specs.Steps.{arg_reg}
 use Rattle.program_laws.proofs.Registers.{same_register}
 use Rattle.gate_laws.specs.Moments.{Final}
-use Rattle.step_code.specs.Pieces.{Home, Reg, Slot, Bnd, Piece, Plain}
-use Rattle.code_laws.specs.Views.{View, with_word, with_bound, with_slot, with_number_home, with_pair_home, regs_put, bounds_put}
+use Rattle.step_code.specs.declared.homes.Home.{Home}
+use Rattle.step_code.specs.declared.homes.Home.TheVariants.{Reg, Slot, Bnd}
+use Rattle.step_code.specs.declared.pieces.Piece.{Piece}
+use Rattle.code_laws.specs.Views.{View, with_word, with_bound, with_slot, with_number_home, with_pair_home, regs_put}
 use Rattle.code_laws.specs.Seen.{Setting, IsSetting, Seen}
 use Rattle.step_code.specs.Steps.{Plan}
 use Rattle.code_laws.specs.Laid.{StandAll}
 use Rattle.step_code.specs.Homes.{IsFree, IsNumberHome, IsPairHome, Assigned}
 use Rattle.code_laws.proofs.Pieces.{with_reg_leaves, leaves_all, plain_goes, keep_slot}
 use Rattle.code_laws.proofs.Homes.{at_address, with_scratch, put_goes, put_bounds_goes, Scratched}
-use Rattle.code_laws.specs.Runs.{AtHome, IsKnown, IsSort, In, whole_of, Leads}
+use Rattle.code_laws.specs.Runs.{AtHome, IsKnown, IsSort, In, whole_of}
 use Rattle.code_laws.proofs.Inside.{in_on, put_in, put_pair_in}
 use Rattle.code_laws.proofs.Leading.{leads_then}
 use Rattle.step_code.specs.Homing.{Clear, FineArgument, FineArguments, FineOne, unset_home, unset_from, home_argument, next_pair, width_of, home_arguments, homing, taken}
 use Rattle.std.specs.Prelude.{nat_lt, nat_eq, if◌then◌else◌, pos, negsuc, slice_index_or}
-use Rattle.std.proofs.Common.{◌≡◌, ◌≢◌, ℕ, zero, suc, ◌+◌, ◌-◌, ◌*◌, ◌^◌, ◌<◌, ◌≤◌, ◌⊎◌, inl, inr, Bool, true, false, cond, Option, None, Some, List, [], ◌∷◌, ◌++◌, length, refl, arith, ap, ◌∙◌, sym, subst}
+use Rattle.std.proofs.Common.{◌≡◌, ◌≢◌, ℕ, zero, suc, ◌+◌, ◌-◌, ◌^◌, ◌<◌, ◌≤◌, ◌⊎◌, inl, inr, Bool, true, false, cond, Option, None, Some, List, [], ◌∷◌, length, refl, arith, ap, ◌∙◌, sym, subst}
 use Rattle.std.proofs.lemmas.Bool.{cond_both, cases_lt}
 use Rattle.std.proofs.lemmas.Bool.Decides.{nat_tests, eqb_tells}
 use Rattle.mx_base.specs.declared.limits.Bounds.{Bounds as BoundsPair}
@@ -26,13 +28,13 @@ use Rattle.mx_base.specs.World.{World}
 use Rattle.x86_forms.specs.declared.instr.Base.TheVariants.{None as NoBase}
 use Rattle.x86_forms.specs.declared.instr.Instr.TheVariants.{MovImm, Bndmk}
 use Rattle.x86_forms.specs.Examples.{reg}
-use Rattle.x86_forms.specs.Processor.{Processor, with_reg, address, part_written}
+use Rattle.x86_forms.specs.Processor.{Processor, address, part_written}
 use Rattle.x86_forms.specs.Requests.{Ends as RequestEnds}
 use Rattle.x86_forms.specs.Table.{row, at_next}
 use Rattle.obj_file.specs.Stored.{Stored}
 use Rattle.fat_ir.specs.declared.step.FatStep.{FatStep}
 use Rattle.fat_ir.specs.Values.{Held, Nothing, Number, Pair, Values, with_held, Value}
-use Rattle.fat_ir.specs.Functions.{Linked, Parameter, arrived_in, with_argument, unset, values_at_entry}
+use Rattle.fat_ir.specs.Functions.{Linked, Parameter, arrived_in, unset, values_at_entry}
 use Rattle.gate_laws.specs.Standing.{Arrive}
 use Rattle.program_laws.proofs.Homed.{Homed}
 
@@ -63,9 +65,11 @@ module _ (S : Setting) (ok : IsSetting S) (private : ℕ) (steps : List FatStep)
   stay i b [] [] c d e f same h = tt
   stay i b [] (x ∷ xs) c d e f same h = absurd h
   stay i b (q ∷ ps) [] c d e f same h = absurd h
-  stay i b (None ∷ ps) (x ∷ xs) c d e f same h =
-      (ap d.regs (sym (same_register i)) ∙ same.regs i (omega arith) (omega arith) ∙ ap c.regs (same_register i) ∙ h.0, same.bounds b (omega arith) (omega arith) ∙ h.1,
-       stay (i + 1) (b + 1) ps xs c d (omega arith) (omega arith) (record { regs = λ j l m. same.regs j (omega arith) m; bounds = λ t l m. same.bounds t (omega arith) m }) h.2)
+  stay i b (None ∷ ps) (x ∷ xs) c d e f same h = (
+    ap d.regs (sym (same_register i)) ∙ same.regs i (omega arith) (omega arith) ∙ ap c.regs (same_register i) ∙ h.0,
+    same.bounds b (omega arith) (omega arith) ∙ h.1,
+    stay (i + 1) (b + 1) ps xs c d (omega arith) (omega arith) (record { regs = λ j l m. same.regs j (omega arith) m; bounds = λ t l m. same.bounds t (omega arith) m }) h.2,
+  )
   stay i b (Some kind ∷ ps) (x ∷ xs) c d e f same h =
       (ap d.regs (sym (same_register i)) ∙ same.regs i (omega arith) (omega arith) ∙ ap c.regs (same_register i) ∙ h.0, stay (i + 1) b ps xs c d (omega arith) f (record { regs = λ j l m. same.regs j (omega arith) m; bounds = same.bounds }) h.1)
 
@@ -96,14 +100,19 @@ module _ (S : Setting) (ok : IsSetting S) (private : ℕ) (steps : List FatStep)
     where
       below : (a b : ℕ) → a < b → nat_lt a b ≡ true
       below a b less = grind (arith, nat_tests)
+
       not_below : (a b : ℕ) → b ≤ a → nat_lt a b ≡ false
       not_below a b le = grind (arith, nat_tests)
+
       is_below : (a b : ℕ) → nat_lt a b ≡ true → a < b
       is_below a b h = grind (arith, nat_tests)
+
       is_above : (a b : ℕ) → nat_lt a b ≡ false → b ≤ a
       is_above a b h = grind (arith, nat_tests)
+
       apart : (a b : ℕ) → b ≤ a → a ≢ b → b < a
       apart a b le ne = grind (arith, ne)
+
       by_below : nat_lt y x0 ≡ false → nat_eq y x ≡ false → y ≢ x → (t : Bool) → nat_lt y x ≡ t → with_held x (unset (p.is_bounds x)) (begun x) y ≡ begun (suc x) y
       by_below o e ne true h = let l = below y (suc x) (let z = is_below y x h in omega arith) in rw (e, o, h, l) refl
       by_below o e ne false h = let l = not_below y (suc x) (let z = apart y x (is_above y x h) ne in omega arith) in rw (e, o, h, l) refl
@@ -129,6 +138,7 @@ module _ (S : Setting) (ok : IsSetting S) (private : ℕ) (steps : List FatStep)
     where
       has : (first x ≤ 0) × (0 ≤ last x)
       has = let e = assigned.private_first x few in (omega arith, omega arith)
+
       by_sort : (b : Bool) → p.is_bounds x ≡ b → (h : Home) → p.home x ≡ h → StandAll S.code S.label_at S.entry_at v.processor.rip (unset_home b h rest) end → Clear p first count pairs 0 0 h → P (whole_of S v y k)
       by_sort false e h f stand clear =
           let u : View = with_number_home h (v.processor.regs 0) (at_address v stand.0) in
@@ -137,7 +147,7 @@ module _ (S : Setting) (ok : IsSetting S) (private : ℕ) (steps : List FatStep)
           let values : with_held x (Number 0) (begun x) ≡ begun (suc x) = ap (λ (t : Bool). with_held x (unset t) (begun x)) (sym e) ∙ begun_more x from in
           leads_then S P (whole_of S v y k) u (put_goes S ok v y k stand.0 0 h (record { seen = seen; stands = stand.1 }) (subst (IsNumberHome S.units) f (assigned.number_fits x e)))
           (λ y2 k2 seen2. go u y2 k2 seen2 stand.2 (zero_kept h v.processor.regs zero_is) (clear_number 0 0 h (v.processor.regs 0) stand.0 v clear) refl
-            (subst (λ (n : ℕ). Inside (begun (suc x)) (with_number_home h n (at_address v stand.0))) (sym zero_is) (subst (λ (g : Home). Inside (begun (suc x)) (with_number_home g 0 (at_address v stand.0))) f (subst (λ (q : Values). Inside q (with_number_home (p.home x) 0 (at_address v stand.0))) values put_it))))
+          (subst (λ (n : ℕ). Inside (begun (suc x)) (with_number_home h n (at_address v stand.0))) (sym zero_is) (subst (λ (g : Home). Inside (begun (suc x)) (with_number_home g 0 (at_address v stand.0))) f (subst (λ (q : Values). Inside q (with_number_home (p.home x) 0 (at_address v stand.0))) values put_it))))
       by_sort true e (Slot s) f stand clear =
           let few_words : s + 1 < S.units = subst (IsPairHome S.units) f (assigned.pair_fits x e) in
           let n2 = stand.2.0 in
@@ -149,8 +159,8 @@ module _ (S : Setting) (ok : IsSetting S) (private : ℕ) (steps : List FatStep)
           leads_then S P (whole_of S v y k) v1 (keep_slot S ok v y k stand.0 s 0 (record { seen = seen; stands = stand.1 }) (omega arith))
           (λ y1 k1 seen1. leads_then S P (whole_of S v1 y1 k1) u (keep_slot S ok v1 y1 k1 n2 (s + 1) 0 (record { seen = seen1; stands = stand.2.1 }) few_words)
           (λ y2 k2 seen2. go u y2 k2 seen2 stand.2.2 zero_is (record { regs = λ j l m. refl; bounds = λ t l m. refl }) refl
-            (subst (λ (n : ℕ). Inside (begun (suc x)) (record v { processor = at_next v.processor n2; slots = with_slot (s + 1) n (with_slot s n v.slots) })) (sym zero_is)
-              (subst (λ (g : Home). Inside (begun (suc x)) (with_pair_home g full_bounds (at_address v n2))) f (subst (λ (q : Values). Inside q (with_pair_home (p.home x) full_bounds (at_address v n2))) values put_it)))))
+          (subst (λ (n : ℕ). Inside (begun (suc x)) (record v { processor = at_next v.processor n2; slots = with_slot (s + 1) n (with_slot s n v.slots) })) (sym zero_is)
+          (subst (λ (g : Home). Inside (begun (suc x)) (with_pair_home g full_bounds (at_address v n2))) f (subst (λ (q : Values). Inside q (with_pair_home (p.home x) full_bounds (at_address v n2))) values put_it)))))
       by_sort true e (Bnd b) f stand clear =
           let u : View = with_pair_home (Bnd b) full_bounds (at_address v stand.0) in
           let at = in_on S.units private steps p first last assigned 0 0 (begun x) v (at_address v stand.0) (omega arith) (moved_on v stand.0) inside in
@@ -158,7 +168,7 @@ module _ (S : Setting) (ok : IsSetting S) (private : ℕ) (steps : List FatStep)
           let values : with_held x (Pair full_bounds) (begun x) ≡ begun (suc x) = ap (λ (t : Bool). with_held x (unset t) (begun x)) (sym e) ∙ begun_more x from in
           leads_then S P (whole_of S v y k) u (plain_goes S ok v y k stand.0 _ u.processor (record { seen = seen; stands = stand.1 }) (record { call = refl; return = refl; service = refl; accesses_none = refl; is_row = full_row v.processor stand.0 b; is_next = refl; leaves = leaves_all v.processor.regs; preserve = refl }))
           (λ y2 k2 seen2. go u y2 k2 seen2 stand.2 zero_is (clear_pair 0 0 (Bnd b) full_bounds stand.0 v clear) refl
-            (subst (λ (g : Home). Inside (begun (suc x)) (with_pair_home g full_bounds (at_address v stand.0))) f (subst (λ (q : Values). Inside q (with_pair_home (p.home x) full_bounds (at_address v stand.0))) values put_it)))
+          (subst (λ (g : Home). Inside (begun (suc x)) (with_pair_home g full_bounds (at_address v stand.0))) f (subst (λ (q : Values). Inside q (with_pair_home (p.home x) full_bounds (at_address v stand.0))) values put_it)))
       by_sort true e (Reg r) f stand clear = absurd (subst (IsPairHome S.units) f (assigned.pair_fits x e))
 
   unset_all : (P : Final → Type 0) (n x : ℕ) (rest : List Piece) (end : ℕ) (v : View) (y : Stored) (k : ℕ) → x0 ≤ x → x + n ≡ private → Seen S v y → StandAll S.code S.label_at S.entry_at v.processor.rip (unset_from p x n rest) end → v.processor.regs 0 ≡ 0 → ((z : ℕ) → x0 ≤ z → z < private → Clear p first count pairs 0 0 (p.home z))
@@ -169,7 +179,7 @@ module _ (S : Setting) (ok : IsSetting S) (private : ℕ) (steps : List FatStep)
   unset_all P (suc n) x rest end v y k from is seen stand zero_is clear inside go =
       unset_one P x (unset_from p (suc x) n rest) end v y k from (omega arith) seen stand zero_is (clear x from (omega arith)) inside
       (λ u y2 k2 seen2 stand2 zero2 same2 world2 inside2. unset_all P n (suc x) rest end u y2 k2 (omega arith) (omega arith) seen2 stand2 zero2 clear inside2
-        (λ u3 y3 k3 seen3 stand3 zero3 same3 world3 inside3. go u3 y3 k3 seen3 stand3 zero3 (same_then 0 0 v.processor u.processor u3.processor same2 same3) (world3 ∙ world2) inside3))
+      (λ u3 y3 k3 seen3 stand3 zero3 same3 world3 inside3. go u3 y3 k3 seen3 stand3 zero3 (same_then 0 0 v.processor u.processor u3.processor same2 same3) (world3 ∙ world2) inside3))
 
   -- ---- arguments
 
@@ -192,8 +202,8 @@ module _ (S : Setting) (ok : IsSetting S) (private : ℕ) (steps : List FatStep)
       let put_it = put_in S.units private steps p first last assigned 0 x a.number values (at_address v stand.0) (fine.0, omega arith) fine.1 at in
       leads_then S P (whole_of S v y k) u (put_goes S ok v y k stand.0 (arg_reg i) (p.home x) (record { seen = seen; stands = stand.1 }) (assigned.number_fits x fine.1))
       (λ y2 k2 seen2. go u y2 k2 seen2 stand.2
-        (stay (i + 1) b ps args v.processor u.processor (omega arith) f (clear_number (i + 1) b (p.home x) (v.processor.regs (arg_reg i)) stand.0 v fine.2) here.1) refl
-        (subst (λ (n : ℕ). Inside (with_held x (Number a.number) values) (with_number_home (p.home x) n (at_address v stand.0))) (sym (ap v.processor.regs (same_register i) ∙ here.0)) put_it))
+      (stay (i + 1) b ps args v.processor u.processor (omega arith) f (clear_number (i + 1) b (p.home x) (v.processor.regs (arg_reg i)) stand.0 v fine.2) here.1) refl
+      (subst (λ (n : ℕ). Inside (with_held x (Number a.number) values) (with_number_home (p.home x) n (at_address v stand.0))) (sym (ap v.processor.regs (same_register i) ∙ here.0)) put_it))
   argument P x i b true None ps a args rest end values v y k e f fine seen stand here inside go =
       let fine_n = fine.0 in
       let fine_p = fine.1 in
@@ -211,8 +221,8 @@ module _ (S : Setting) (ok : IsSetting S) (private : ℕ) (steps : List FatStep)
       leads_then S P (whole_of S v y k) u1 (put_goes S ok v y k stand.0 (arg_reg i) (p.home x) (record { seen = seen; stands = stand.1 }) (assigned.number_fits x fine_n.1))
       (λ y1 k1 seen1. leads_then S P (whole_of S u1 y1 k1) u2 (put_bounds_goes S ok u1 y1 k1 n2 b (p.home (x + 1)) (record { seen = seen1; stands = stand.2.1 }) (assigned.pair_fits (x + 1) fine_p.1))
       (λ y2 k2 seen2. go u2 y2 k2 seen2 stand.2.2
-        (stay (i + 1) (b + 1) ps args v.processor u2.processor (omega arith) (omega arith) (same_then (i + 1) (b + 1) v.processor u1.processor u2.processor (record { regs = same1.regs; bounds = λ t l m. refl }) same2) here.2) refl
-        (subst (λ (z : BoundsPair). Inside (with_held (x + 1) (Pair a.bounds) (with_held x (Number a.number) values)) (with_pair_home (p.home (x + 1)) z (at_address u1 n2))) (sym here.1) put_pair)))
+      (stay (i + 1) (b + 1) ps args v.processor u2.processor (omega arith) (omega arith) (same_then (i + 1) (b + 1) v.processor u1.processor u2.processor (record { regs = same1.regs; bounds = λ t l m. refl }) same2) here.2) refl
+      (subst (λ (z : BoundsPair). Inside (with_held (x + 1) (Pair a.bounds) (with_held x (Number a.number) values)) (with_pair_home (p.home (x + 1)) z (at_address u1 n2))) (sym here.1) put_pair)))
 
   abbrev Again : (Final → Type 0) → ℕ → List Parameter → List (Option IntKind) → List Value → ℕ → Type 0
   Again P i qs ps args end = (home2 temp2 b2 : ℕ) (values2 : Values) (u : View) (y2 : Stored) (k2 : ℕ) → i + 1 + length ps ≡ count → b2 + pointers ps ≡ pairs → FineArguments p first count pairs home2 temp2 (i + 1) b2 qs ps → Seen S u y2 → StandAll S.code S.label_at S.entry_at u.processor.rip (home_arguments p home2 temp2 (i + 1) b2 qs) end
@@ -237,13 +247,14 @@ module _ (S : Setting) (ok : IsSetting S) (private : ℕ) (steps : List FatStep)
       one x home2 temp2 pointer fine1 fine2 stand go again =
           argument P x i b pointer s ps a args (home_arguments p home2 temp2 (i + 1) (next_pair pointer b) qs) end values v y k e f fine1 seen stand here inside
           (λ u y2 k2 seen2 stand2 here2 world2 inside2. again home2 temp2 (next_pair pointer b) (argued x pointer a values) u y2 k2 (let z = e in omega arith) (pairs_left pointer s f fine1) fine2 seen2 stand2 here2 inside2
-            (λ u3 y3 k3 seen3 at3 world3 inside3. go u3 y3 k3 seen3 at3 (world3 ∙ world2) inside3))
+          (λ u3 y3 k3 seen3 at3 world3 inside3. go u3 y3 k3 seen3 at3 (world3 ∙ world2) inside3))
         where
           pairs_left : (pointer : Bool) (s : Option IntKind) → b + pointers (s ∷ ps) ≡ pairs → FineArgument p first count pairs x i b pointer s → next_pair pointer b + pointers ps ≡ pairs
           pairs_left true None f fine = omega arith
           pairs_left true (Some kind) f fine = absurd fine
           pairs_left false None f fine = absurd fine
           pairs_left false (Some kind) f fine = f
+
       by_parameter : (private pointer : Bool)
           → StandAll S.code S.label_at S.entry_at v.processor.rip (if private then home_argument p home i b pointer (home_arguments p (home + width_of pointer) temp (i + 1) (next_pair pointer b) qs) else home_argument p temp i b pointer (home_arguments p home (temp + width_of pointer) (i + 1) (next_pair pointer b) qs)) end
           → FineOne p first count pairs private home temp i b pointer s × FineArguments p first count pairs (if private then home + width_of pointer else home) (if private then temp else temp + width_of pointer) (i + 1) (next_pair pointer b) qs ps
@@ -277,6 +288,7 @@ module _ (p : Plan) (first : ℕ → ℕ) (count pairs : ℕ) where
       tail_of true (Some kind) x f h = absurd f
       tail_of false None x f h = absurd f
       tail_of false (Some kind) x f h = h.1
+
       by_parameter_kind : (private pointer : Bool)
           → FineOne p first count pairs private home temp i b pointer s × FineArguments p first count pairs (if private then home + width_of pointer else home) (if private then temp else temp + width_of pointer) (i + 1) (next_pair pointer b) qs ps
           → ((v : ℕ) → (v < home) ⊎ (home + (if private then width_of pointer + taken qs else taken qs) ≤ v) → A v ≡ B v)
@@ -324,22 +336,24 @@ module _ (S : Setting) (ok : IsSetting S) (steps : List FatStep) (p : Plan) (fir
       let P : Final → Type 0 = λ o. Homed S S.units l.fun.private (values_at_entry l.fun l.parameters args) steps p first last assigned base o v.world in
       leads_then S P (whole_of S v y k) v1 (plain_goes S ok v y k stand.0 _ v1.processor (record { seen = seen; stands = stand.1 }) (record { call = refl; return = refl; service = refl; accesses_none = refl; is_row = zero_row v.processor stand.0; is_next = refl; leaves = with_reg_leaves v.processor.regs 0 0 rax_free; preserve = refl }))
       (λ y1 k1 seen1. unset_all S ok l.fun.private steps p first last assigned (length ps) (pointers ps) (taken l.parameters) P (l.fun.private - taken l.parameters) (taken l.parameters) (home_arguments p 0 l.fun.private 0 0 l.parameters) base v1 y1 k1 (omega arith) (omega arith) seen1 stand.2 refl clear
-        (nothing_begun v1)
-        (λ u y2 k2 seen2 stand2 zero2 same2 world2 inside2.
-          arguments S ok l.fun.private steps p first last assigned (length ps) (pointers ps) (taken l.parameters) P 0 l.fun.private 0 0 l.parameters ps args base (begun S ok l.fun.private steps p first last assigned (length ps) (pointers ps) (taken l.parameters) l.fun.private) u y2 k2 (omega arith) (omega arith) fine seen2 stand2
-            (stay S ok l.fun.private steps p first last assigned (length ps) (pointers ps) (taken l.parameters) 0 0 ps args v.processor u.processor (omega arith) (omega arith)
-              (same_then S ok l.fun.private steps p first last assigned (length ps) (pointers ps) (taken l.parameters) 0 0 v.processor v1.processor u.processor (scratched 0 v stand.0) same2) here) inside2
-            (λ u3 y3 k3 seen3 at3 world3 inside3. record { view = u3; leads = record { memory = y3; steps = k3; same = refl; seen = seen3 }; at = at3; world = world3 ∙ world2; values = subst (λ (q : Values). In S.units l.fun.private steps p first last assigned 0 q u3) (begun_same args v.processor here) inside3 })))
+      (nothing_begun v1)
+      (λ u y2 k2 seen2 stand2 zero2 same2 world2 inside2.
+      arguments S ok l.fun.private steps p first last assigned (length ps) (pointers ps) (taken l.parameters) P 0 l.fun.private 0 0 l.parameters ps args base (begun S ok l.fun.private steps p first last assigned (length ps) (pointers ps) (taken l.parameters) l.fun.private) u y2 k2 (omega arith) (omega arith) fine seen2 stand2
+      (stay S ok l.fun.private steps p first last assigned (length ps) (pointers ps) (taken l.parameters) 0 0 ps args v.processor u.processor (omega arith) (omega arith)
+      (same_then S ok l.fun.private steps p first last assigned (length ps) (pointers ps) (taken l.parameters) 0 0 v.processor v1.processor u.processor (scratched 0 v stand.0) same2) here) inside2
+      (λ u3 y3 k3 seen3 at3 world3 inside3. record { view = u3; leads = record { memory = y3; steps = k3; same = refl; seen = seen3 }; at = at3; world = world3 ∙ world2; values = subst (λ (q : Values). In S.units l.fun.private steps p first last assigned 0 q u3) (begun_same args v.processor here) inside3 })))
     where
       none_begun : (x : ℕ) (t : Bool) → (if t then Nothing else (if t then unset (p.is_bounds x) else Nothing)) ≡ Nothing
       none_begun x true = refl
       none_begun x false = refl
+
       nothing_begun : (u : View) → In S.units l.fun.private steps p first last assigned 0 (begun S ok l.fun.private steps p first last assigned (length ps) (pointers ps) (taken l.parameters) (taken l.parameters)) u
       nothing_begun u = record {
         at_home = λ x le. subst (λ (h : Held). AtHome u (p.home x) h) (sym (none_begun x (nat_lt x (taken l.parameters)))) tt;
         begun = λ x. subst (λ (h : Held). IsKnown h → first x ≤ 0) (sym (none_begun x (nat_lt x (taken l.parameters)))) (λ known. absurd known);
         sorted = λ x. subst (λ (h : Held). IsSort (p.is_bounds x) h) (sym (none_begun x (nat_lt x (taken l.parameters)))) tt;
       }
+
       parameter_apart : (j : ℕ) → nat_eq (arg_reg j) 0 ≡ false
       parameter_apart zero = refl
       parameter_apart (suc zero) = refl
@@ -347,5 +361,6 @@ module _ (S : Setting) (ok : IsSetting S) (steps : List FatStep) (p : Plan) (fir
       parameter_apart (suc (suc (suc zero))) = refl
       parameter_apart (suc (suc (suc (suc zero)))) = refl
       parameter_apart (suc (suc (suc (suc (suc n))))) = refl
+
       scratched : (n : ℕ) (v : View) (next : ℕ) → SameArgs S ok l.fun.private steps p first last assigned (length ps) (pointers ps) (taken l.parameters) 0 0 v.processor (with_scratch v next 0 n).processor
       scratched n v next = record { regs = λ j a b. ap (λ t. cond t n (v.processor.regs (arg_reg j))) (parameter_apart j); bounds = λ t a b. refl }

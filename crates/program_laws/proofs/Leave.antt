@@ -1,38 +1,31 @@
 -- The return of a C function: from the end of its own code to behind its CALL.
 use Rattle.mx_base.specs.StopOfC.{AccessOfC}
-use Rattle.call_gates.specs.Gates.{Code, legacy_cell, data_cell, depth_cell}
-use Rattle.call_sigs.specs.Signatures.{Signature, Result, Nothing, Pointer, Of}
+use Rattle.call_gates.specs.Gates.{legacy_cell, data_cell, depth_cell}
+use Rattle.call_sigs.specs.Signatures.{Result, Nothing, Pointer, Of}
 use Rattle.gate_laws.specs.Moments.{Moment, Final}
 use Rattle.obj_file.specs.Finals.{final}
 use Rattle.code_laws.specs.Views.{View}
-use Rattle.code_laws.specs.Seen.{Setting, Seen}
+use Rattle.code_laws.specs.Seen.{Seen}
 use Rattle.program_laws.proofs.Sized.{Sizes, AreSizes, inner_return}
-use Rattle.std.specs.Prelude.{nat_eq, nat_lt, not, if◌then◌else◌, pos}
-use Rattle.std.proofs.Common.{◌≡◌, ℕ, zero, suc, ◌+◌, ◌-◌, ◌*◌, ◌^◌, ◌%◌, ◌<◌, ◌≤◌, ◌⊎◌, inl, inr, Bool, true, false, cond, Option, None, Some, List, [], ◌∷◌, ◌++◌, refl, arith, ap, ◌∙◌, sym, subst}
+use Rattle.std.proofs.Common.{◌≡◌, ℕ, zero, suc, ◌+◌, ◌-◌, ◌*◌, ◌^◌, ◌<◌, ◌≤◌, inl, inr, true, false, Option, refl, arith, ap, ◌∙◌, sym, subst}
 use Rattle.std.proofs.lemmas.Bool.Decides.{nat_tests}
-use Rattle.mx_base.specs.declared.limits.Bounds.{Bounds}
-use Rattle.mx_base.specs.Memory.{Bytes, AreBytes, number_at}
-use Rattle.mx_base.specs.Regions.{instrumented_code, control_stack, region_end, data_stack, is_in, is_sealed}
-use Rattle.mx_base.specs.StopOfC.{StopOfC, OutOfTurns, StackOver}
-use Rattle.mx_base.specs.World.{World, FarRegisters, Access}
-use Rattle.mx_base.specs.Services.{Guest}
-use Rattle.mx_base.proofs.MemoryLemmas.{number_at-lt, number_at-same}
+use Rattle.mx_base.specs.Memory.{Bytes, number_at}
+use Rattle.mx_base.specs.Regions.{instrumented_code, is_in}
+use Rattle.mx_base.specs.StopOfC.{OutOfTurns}
+use Rattle.mx_base.specs.World.{World}
+use Rattle.mx_base.proofs.MemoryLemmas.{number_at-same}
 use Rattle.obj_file.proofs.StoredBytes.{with_number_apart, number_apart, word_back}
-use Rattle.x86_forms.specs.Arithmetic.{Flags}
 use Rattle.x86_forms.specs.Processor.{Processor, with_reg}
 use Rattle.x86_forms.specs.Watch.{is_in_outer}
-use Rattle.obj_file.specs.Machine.{State}
-use Rattle.obj_file.specs.Runs.{End, Out, Stopped}
+use Rattle.obj_file.specs.Runs.{Out}
 use Rattle.obj_file.specs.Stored.{Stored}
 use Rattle.fat_ir.specs.Values.{Value}
-use Rattle.fat_ir.specs.Calls.{with_turns, with_data_sp, turn_from, Outcome, Comes, Stops, Stuck}
-use Rattle.mx_base.specs.Guests.{GuestFits}
-use Rattle.legacy_calls.specs.Legacy.{Linkage, ground, far_of}
-use Rattle.gate_laws.specs.Placed.{HasCode, IsPlaced, StandsAt}
-use Rattle.gate_laws.specs.Standing.{EndsAs, AtCall, Back, CallEnds, Holds}
-use Rattle.gate_laws.specs.Effects.{end_of}
+use Rattle.fat_ir.specs.Calls.{with_turns, with_data_sp, turn_from, Comes}
+use Rattle.legacy_calls.specs.Legacy.{Linkage, ground}
+use Rattle.gate_laws.specs.Placed.{HasCode, IsPlaced}
+use Rattle.gate_laws.specs.Standing.{EndsAs, Back, CallEnds, Holds}
 use Rattle.gate_laws.proofs.Walks.{written, IsOwn, code_kept, here, Leads, then_on, load_leads, store_leads}
-use Rattle.gate_laws.proofs.Straight.{words_stay, placed_front, placed_back}
+use Rattle.gate_laws.proofs.Straight.{words_stay}
 use Rattle.gate_laws.proofs.Turns.{Turns, return_turns}
 use Rattle.gate_laws.proofs.Entry.{own_cell, open_kept}
 use Rattle.program_laws.specs.Borders.{moment_of, setting_of}
@@ -48,54 +41,76 @@ module _ (k : Linkage) (image : Bytes) (places : ℕ → Option AccessOfC) (b : 
     (away : is_in_outer k.outers (v.processor.rip + 8 + z.frame_given + 8 + 8 + z.one_taken + 8 + z.words_given) ≡ false) where
   abbrev F : Moment → Final
   F t = final (ground k) t
+
   abbrev c : Processor
   c = v.processor
+
   abbrev a : ℕ
   a = c.rip
+
   abbrev W : ℕ
   W = v.world.data_sp
+
   abbrev r1 : ℕ → ℕ
   r1 = with_reg c.regs 1 W
+
   abbrev c1 : Processor
   c1 = record c { rip = a + 8; regs = r1 }
+
   abbrev r2 : ℕ → ℕ
   r2 = with_reg r1 1 (W + frame)
+
   abbrev c2 : Processor
   c2 = record c { rip = a + 8 + z.frame_given; regs = r2; flags = added_flags 1 frame c1 }
+
   abbrev x1 : Stored
   x1 = written x data_cell (W + frame)
+
   abbrev c3 : Processor
   c3 = record c2 { rip = a + 8 + z.frame_given + 8 }
+
   abbrev r4 : ℕ → ℕ
   r4 = with_reg r2 1 (depth + 1)
+
   abbrev c4 : Processor
   c4 = record c2 { rip = a + 8 + z.frame_given + 8 + 8; regs = r4 }
+
   abbrev r5 : ℕ → ℕ
   r5 = with_reg r4 1 (depth + 1 - 1)
+
   abbrev c5 : Processor
   c5 = record c4 { rip = a + 8 + z.frame_given + 8 + 8 + z.one_taken; regs = r5; flags = taken_flags 1 1 c4 }
+
   abbrev x2 : Stored
   x2 = written x1 depth_cell (depth + 1 - 1)
+
   abbrev c6 : Processor
   c6 = record c5 { rip = a + 8 + z.frame_given + 8 + 8 + z.one_taken + 8 }
+
   abbrev r7 : ℕ → ℕ
   r7 = with_reg r5 4 (s - 8 * units + 8 * units)
+
   abbrev c7 : Processor
   c7 = record c6 { rip = a + 8 + z.frame_given + 8 + 8 + z.one_taken + 8 + z.words_given; regs = r7; flags = added_flags 4 (8 * units) c6 }
+
   abbrev c8 : Processor
   c8 = record c7 { rip = next; regs = with_reg r7 4 (s + 8) }
 
   own_n : IsOwn depth_cell
   own_n = own_cell depth_cell (omega arith) (omega arith)
+
   own_d : IsOwn data_cell
   own_d = own_cell data_cell (omega arith) (omega arith)
+
   own_s : IsOwn s
   own_s = record { low = omega arith; place = inr (omega arith); high = omega arith }
 
   code : HasCode image x
   code = record { each_byte = seen.memory.each_byte; code = λ t inside. let e = inside_high t inside in seen.memory.code t e.0 e.1 }
+
   code1 : HasCode image x1
   code1 = code_kept image x data_cell (W + frame) own_d code
+
   code2 : HasCode image x2
   code2 = code_kept image x1 depth_cell (depth + 1 - 1) own_n code1
 
@@ -150,7 +165,13 @@ module _ (k : Linkage) (image : Bytes) (places : ℕ → Option AccessOfC) (b : 
       stands = record {
         shares = record {
           unsealed = λ t free. open_kept x1 depth_cell (depth + 1 - 1) t own_n free ∙ open_kept x data_cell (W + frame) t own_d free ∙ seen.memory.open_bytes t free;
-          each_byte = code2.each_byte; store = seen.memory.store; kept_words = seen.memory.kept_words; guest = refl; guest_fits = seen.memory.guest_fits; turns = refl; accesses = refl;
+          each_byte = code2.each_byte;
+          store = seen.memory.store;
+          kept_words = seen.memory.kept_words;
+          guest = refl;
+          guest_fits = seen.memory.guest_fits;
+          turns = refl;
+          accesses = refl;
         };
         far = λ i. record { rbx = seen.far.rbx i; rbp = seen.far.rbp i; r12 = seen.far.r12 i; r13 = seen.far.r13 i; r14 = seen.far.r14 i; r15 = seen.far.r15 i };
         legacy_sp = number_apart x1.bytes legacy_cell depth_cell (depth + 1 - 1) (inl (omega arith)) ∙ number_apart x.bytes legacy_cell data_cell (W + frame) (inl (omega arith)) ∙ seen.memory.legacy_cell;
@@ -170,7 +191,7 @@ module _ (k : Linkage) (image : Bytes) (places : ℕ → Option AccessOfC) (b : 
     by_turns zero e =
         let went = came in
         let all : F m ≡ record { end = Out (record { processor = c7; memory = x2; guest = w2.guest; steps = went.0 }); accesses = w2.accesses; clean = true } =
-            went.1 ∙ ap (λ (t : ℕ). F (here k image c7 x2 w2.guest went.0 t w2.accesses)) e ∙ returning.out w2.guest went.0 w2.accesses in
+        went.1 ∙ ap (λ (t : ℕ). F (here k image c7 x2 w2.guest went.0 t w2.accesses)) e ∙ returning.out w2.guest went.0 w2.accesses in
         subst (λ (g : Final). EndsAs places OutOfTurns w2 g) (sym all) (refl, refl, (refl, record { guest = refl; store = seen.memory.store }))
     by_turns (suc j) e =
         let went = came in

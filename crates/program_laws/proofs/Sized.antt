@@ -1,7 +1,5 @@
 -- The entry of a function and its return with the sizes of their instructions. Those of additions, subtractions and comparisons depend on the constant.
-use Rattle.std.proofs.Common.{◌≡◌, ℕ, ◌+◌, ◌*◌, ◌<◌, true, List, [], ◌∷◌, ◌++◌}
-use Rattle.std.specs.Prelude.{pos}
-use Rattle.x86_forms.specs.declared.instr.Instr.{Instr}
+use Rattle.std.proofs.Common.{ℕ, ◌+◌, ◌*◌, ◌<◌, [], ◌∷◌, ◌++◌}
 use Rattle.x86_forms.specs.declared.instr.Instr.TheVariants.{Syscall}
 use Rattle.call_gates.specs.Gates.{Code, rax, rcx, rsp, load_cell, store_cell, sets, returns, data_cell, depth_cell}
 use Rattle.step_code.specs.Entry as entry

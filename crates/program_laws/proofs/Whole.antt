@@ -1,5 +1,5 @@
 -- The run of an image ends as its program does, where its functions' code stands with homes that fit and steps that are what code asks.
-use Rattle.std.proofs.Common.{◌≡◌, ℕ, zero, suc, ◌<◌, ◌≤◌, List, [], Option, None, true, refl, length}
+use Rattle.std.proofs.Common.{◌≡◌, ℕ, zero, suc, ◌<◌, ◌≤◌, List, Option, None, true, refl, length}
 use Rattle.mx_base.specs.Guests.{InputFits}
 use Rattle.mx_base.specs.Memory.{Bytes}
 use Rattle.mx_base.specs.StopOfC.{StackOver, AccessOfC}
@@ -9,7 +9,7 @@ use Rattle.obj_file.specs.Machine.{Reading, IsReader}
 use Rattle.obj_file.specs.Stored.{Stored}
 use Rattle.obj_file.specs.StoreLaw.{ReadsValid}
 use Rattle.fat_ir.specs.Values.{Value}
-use Rattle.fat_ir.specs.Calls.{Callee, Outcome, Stops, turn_from}
+use Rattle.fat_ir.specs.Calls.{Callee, Stops, turn_from}
 use Rattle.fat_ir.specs.Step.{Next}
 use Rattle.fat_ir.specs.Functions.{Linked, Target, OfC, Outside, call_of, symbols_of, values_at_entry, calls, program_run}
 use Rattle.fat_ir.specs.Laws.{Leads, LeftByCalls, NoMoreTurns, FramesGivenBack, SameFrame, Anywhere}
@@ -27,7 +27,7 @@ use Rattle.gate_laws.specs.Standing.{AtCall, CallEnds, Calls}
 use Rattle.gate_laws.proofs.Whole.{image_ends}
 use Rattle.gate_laws.proofs.Images.{image_means}
 use Rattle.program_laws.specs.Functions.{AreFunctions}
-use Rattle.program_laws.proofs.Functions.{Parts, KeepsFrame, one_level}
+use Rattle.program_laws.proofs.Functions.{KeepsFrame, one_level}
 use Rattle.program_laws.specs.Entering.{Enters}
 use Rattle.step_code.specs.Functions.{steps_at}
 use Rattle.gate_laws.specs.Moments.{Moment}

@@ -1,30 +1,25 @@
 -- Additions, subtractions, comparisons, hops and the stop for want of stack, as equations between runs.
-use Rattle.mx_base.specs.StopOfC.{AccessOfC}
 use Rattle.call_gates.specs.Gates.{in_reg}
-use Rattle.call_gates.specs.Gates.{rax}
-use Rattle.gate_laws.specs.Moments.{Moment, Final}
-use Rattle.obj_file.specs.Finals.{final, clean_now}
-use Rattle.std.specs.Prelude.{◌||◌, not, if◌then◌else◌, pos, ◌==◌}
-use Rattle.std.proofs.Common.{◌≡◌, ℕ, zero, suc, ◌+◌, ◌-◌, ◌*◌, ◌^◌, ◌%◌, ◌<◌, ◌≤◌, inl, inr, Bool, true, false, cond, Option, None, Some, List, [], ◌∷◌, ◌++◌, refl, arith, ap, ◌∙◌, sym, subst}
-use Rattle.std.proofs.lemmas.Bool.{cases_lt}
+use Rattle.obj_file.specs.Finals.{clean_now}
+use Rattle.std.specs.Prelude.{if◌then◌else◌, pos}
+use Rattle.std.proofs.Common.{◌≡◌, ℕ, ◌+◌, ◌-◌, ◌^◌, ◌%◌, ◌<◌, ◌≤◌, Bool, true, false, refl, arith, ap, ◌∙◌}
 use Rattle.std.proofs.lemmas.Bool.Decides.{nat_tests}
 use Rattle.mx_base.specs.declared.stops.Stop.TheVariants as stop
 use Rattle.mx_base.specs.Memory.{Bytes}
 use Rattle.mx_base.specs.Regions.{instrumented_code, is_in}
-use Rattle.mx_base.specs.Services.{service_of, served, Guest}
-use Rattle.mx_base.specs.World.{Access}
+use Rattle.mx_base.specs.Services.{service_of, served}
 use Rattle.x86_forms.specs.declared.instr.Instr.TheVariants.{AluImm, Jcc, Syscall}
 use Rattle.x86_forms.specs.Arithmetic.{Flags, Add, Sub, Cmp, flags_after, result_of, low, holds}
-use Rattle.x86_forms.specs.Processor.{Processor, with_reg, part_written, branch_target}
+use Rattle.x86_forms.specs.Processor.{Processor, with_reg, part_written}
 use Rattle.x86_forms.specs.Requests.{Ends, run}
 use Rattle.x86_forms.specs.Table.{row, imm_value}
 use Rattle.x86_forms.proofs.Conditions.{compare_64}
-use Rattle.obj_file.specs.Machine.{Is, State, Event, Stops, event, event_of, deed_of, executed, asked, reach_strays}
+use Rattle.obj_file.specs.Machine.{Is, State, Stops, event, event_of, deed_of, executed, asked, reach_strays}
 use Rattle.obj_file.specs.Stored.{Stored}
 use Rattle.legacy_calls.specs.Legacy.{Linkage, ground}
 use Rattle.gate_laws.specs.Placed.{HasCode, StandsAt}
 use Rattle.gate_laws.proofs.Steps.{by_reading, next_fits, clean_there}
-use Rattle.gate_laws.proofs.Walks.{here, Leads, free_leads}
+use Rattle.gate_laws.proofs.Walks.{Leads, free_leads}
 
 -- the flags of an operation with a constant
 abbrev pub alu_flags : (r n : ℕ) → Processor → Flags

@@ -1,6 +1,6 @@
 -- Where an image has the bytes of a function, its parts stand.
-use Rattle.std.specs.Prelude.{nat_lt, IsTrue, pos}
-use Rattle.std.proofs.Common.{◌≡◌, ℕ, suc, ◌+◌, ◌*◌, ◌^◌, ◌<◌, ◌≤◌, true, false, Option, List, [], ◌∷◌, ◌++◌, length, refl, arith, ap, ◌∙◌, sym, subst}
+use Rattle.std.specs.Prelude.{nat_lt, IsTrue}
+use Rattle.std.proofs.Common.{◌≡◌, ℕ, suc, ◌+◌, ◌*◌, ◌^◌, ◌<◌, ◌≤◌, true, false, Option, List, [], ◌∷◌, ◌++◌, length, refl, arith, sym, subst}
 use Rattle.std.proofs.lemmas.Bool.Decides.{nat_tests}
 use Rattle.mx_base.specs.Memory.{Bytes, list_at}
 use Rattle.mx_base.specs.Numbers.{as_signed}
@@ -13,11 +13,12 @@ use Rattle.x86_forms.specs.Watch.{is_in_outer}
 use Rattle.x86_forms.proofs.ShortCode.{spelling-short}
 use Rattle.obj_file.specs.Machine.{IsReader}
 use Rattle.fat_ir.specs.Functions.{Linked}
-use Rattle.step_code.specs.Pieces.{Piece, Plain}
+use Rattle.step_code.specs.declared.pieces.Piece.{Piece}
+use Rattle.step_code.specs.declared.pieces.Piece.TheVariants.{Plain}
 use Rattle.step_code.specs.Steps.{end_pieces}
 use Rattle.step_code.specs.Entry as entry
 use Rattle.step_code.specs.Bytes.{size_of_piece, size_of_pieces, size_of_steps, bytes_of_pieces, bytes_of_steps, AllValid}
-use Rattle.step_code.specs.Functions.{plain, Layout, IsWritten, HomesFit, homing_at, steps_at, end_at, return_at, past_function, bytes_of_function}
+use Rattle.step_code.specs.Functions.{plain, Layout, homing_at, steps_at, end_at, return_at, past_function}
 use Rattle.step_code.specs.Homing.{homing}
 use Rattle.step_code.proofs.Sizes.{length_bytes, length_steps}
 use Rattle.code_laws.specs.Laid.{StandAll}
@@ -25,7 +26,7 @@ use Rattle.code_laws.proofs.Placing.{list_parts, pieces_stand, steps_stand}
 use Rattle.call_gates.specs.Gates.{Code, instructions}
 use Rattle.legacy_calls.specs.Legacy.{Linkage}
 use Rattle.gate_laws.specs.Effects.{end_of}
-use Rattle.gate_laws.specs.Placed.{StandsAt, IsPlaced}
+use Rattle.gate_laws.specs.Placed.{IsPlaced}
 use Rattle.gate_laws.proofs.Placing.{stands_by_bytes}
 use Rattle.gate_laws.proofs.Straight.{placed_front, placed_back}
 use Rattle.program_laws.specs.Functions.{IsFunction, entries_of}
@@ -141,35 +142,48 @@ module _ (image : Bytes) (label_at entry_at : ℕ → ℕ) where
       → list_at (length (bytes_of_pieces label_at entry_at at ps ++ rest)) image at ≡ bytes_of_pieces label_at entry_at at ps ++ rest
       → StandAll image label_at entry_at at ps (at + size_of_pieces ps) × (list_at (length rest) image (at + size_of_pieces ps) ≡ rest)
   front_stands ps at rest room valid bytes =
-      let parts = list_parts image at (bytes_of_pieces label_at entry_at at ps) rest bytes in
-      (pieces_stand image label_at entry_at at ps room.low room.high valid parts.0,
-       subst (λ (n : ℕ). list_at (length rest) image (at + n) ≡ rest) (length_bytes label_at entry_at at ps) parts.1)
+      let parts = list_parts image at (bytes_of_pieces label_at entry_at at ps) rest bytes in (
+        pieces_stand image label_at entry_at at ps room.low room.high valid parts.0,
+        subst (λ (n : ℕ). list_at (length rest) image (at + n) ≡ rest) (length_bytes label_at entry_at at ps) parts.1,
+      )
 
 module _ (k : Linkage) (image : Bytes) (places : ℕ → Option AccessOfC) (reader : IsReader k.reads) (few_outers : k.outers ≤ 65536) (inner stub : ℕ → ℕ) (l : Linked) (f : ℕ) (fn : IsFunction k image places inner stub l f) where
   abbrev lay : Layout
   lay = fn.layout
+
   abbrev at : ℕ
   at = inner f
+
   abbrev label_at : ℕ → ℕ
   label_at = lay.label_at
+
   abbrev entry_at : ℕ → ℕ
   entry_at = entries_of inner stub l
+
   abbrev frame : ℕ
   frame = l.fun.frame
+
   abbrev z : Sizes
   z = sizes_of frame lay.units
+
   abbrev A : List Piece
   A = plain (entry.inner_entry frame lay.units)
+
   abbrev B : List Piece
   B = homing lay.plan l.fun.private l.parameters
+
   abbrev E : List Piece
   E = plain (entry.inner_return frame lay.units)
+
   abbrev at1 : ℕ
   at1 = homing_at l.fun l.parameters lay at
+
   abbrev at2 : ℕ
   at2 = steps_at l.fun l.parameters lay at
+
   abbrev at3 : ℕ
   at3 = end_at l.fun l.parameters lay at
+
   abbrev at4 : ℕ
   at4 = return_at l.fun l.parameters lay at
 
@@ -178,10 +192,13 @@ module _ (k : Linkage) (image : Bytes) (places : ℕ → Option AccessOfC) (read
 
   abbrev bytes_e : List ℕ
   bytes_e = bytes_of_pieces label_at entry_at at4 E
+
   abbrev bytes_d : List ℕ
   bytes_d = bytes_of_pieces label_at entry_at at3 end_pieces ++ bytes_e
+
   abbrev bytes_c : List ℕ
   bytes_c = bytes_of_steps lay.plan label_at entry_at at2 l.fun.steps ++ bytes_d
+
   abbrev bytes_b : List ℕ
   bytes_b = bytes_of_pieces label_at entry_at at1 B ++ bytes_c
 

@@ -12,7 +12,7 @@ use Rattle.fat_ir.specs.Values.{Value}
 use Rattle.step_code.specs.Functions.{Layout}
 use Rattle.step_code.specs.Homes.{Assigned}
 use Rattle.code_laws.specs.Runs.{In}
-use Rattle.code_laws.specs.Seen.{Setting, Seen}
+use Rattle.code_laws.specs.Seen.{Seen}
 use Rattle.code_laws.specs.Views.{View}
 use Rattle.legacy_calls.specs.Legacy.{Linkage, ground}
 use Rattle.gate_laws.specs.Moments.{Moment}

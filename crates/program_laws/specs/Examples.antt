@@ -9,9 +9,10 @@ use Rattle.obj_file.specs.Machine.{Reading}
 use Rattle.fat_ir.specs.declared.program.FatFun.{FatFun}
 use Rattle.fat_ir.specs.declared.step.FatStep.TheVariants as s
 use Rattle.fat_ir.specs.Calls.{Outcome, Comes, Stops, Stuck}
-use Rattle.fat_ir.specs.Functions.{Linked, Parameter, OfC}
+use Rattle.fat_ir.specs.Functions.{Linked, OfC}
 use Rattle.fat_ir.specs.Step.{ObjectAt}
-use Rattle.step_code.specs.Pieces.{Home, Reg, Slot, Bnd}
+use Rattle.step_code.specs.declared.homes.Home.{Home}
+use Rattle.step_code.specs.declared.homes.Home.TheVariants.{Reg, Slot, Bnd}
 use Rattle.step_code.specs.Steps.{Plan}
 use Rattle.step_code.specs.Bytes.{places_of_steps}
 use Rattle.step_code.specs.Functions.{Layout, steps_at, bytes_of_function}
@@ -34,14 +35,24 @@ place_of_read = record { file = 0; line = 2; col = 1 }
 -- in `main`, 0 is a number, 1 an address, 2 its bounds, and 3 what comes back
 abbrev pub main_steps : FatFun
 main_steps = record {
-  name = 0; private = 0; arrived = 0; temps = 4; bounds = false ∷ false ∷ true ∷ false ∷ []; frame = 0;
+  name = 0;
+  private = 0;
+  arrived = 0;
+  temps = 4;
+  bounds = false ∷ false ∷ true ∷ false ∷ [];
+  frame = 0;
   steps = s.Place 1 2 (Some 1) 0 4 ∷ s.Const 0 7 ∷ s.Judge 1 4 2 true place_of_write ∷ s.Store 1 0 I32 ∷ s.Call 0 ((0, None) ∷ (1, Some 2) ∷ []) (Some 3) None ∷ s.Give (Some 3) None ∷ [];
 }
 
 -- in `f`, 0 is a, 1 and 2 are p, and 3 is what p points to
 abbrev pub f_steps : FatFun
 f_steps = record {
-  name = 1; private = 3; arrived = 0; temps = 1; bounds = false ∷ false ∷ true ∷ false ∷ []; frame = 0;
+  name = 1;
+  private = 3;
+  arrived = 0;
+  temps = 1;
+  bounds = false ∷ false ∷ true ∷ false ∷ [];
+  frame = 0;
   steps = s.Judge 1 4 2 false place_of_read ∷ s.Load 1 3 I32 ∷ s.Give (Some 3) None ∷ [];
 }
 
@@ -50,8 +61,10 @@ linked_main = record { fun = main_steps; parameters = []; targets = λ symbol. O
 
 abbrev pub linked_f : Linked
 linked_f = record {
-  fun = f_steps; parameters = record { private = true; pointer = false } ∷ record { private = true; pointer = true } ∷ [];
-  targets = λ symbol. OfC 1; located = λ symbol. ObjectAt object_at;
+  fun = f_steps;
+  parameters = record { private = true; pointer = false } ∷ record { private = true; pointer = true } ∷ [];
+  targets = λ symbol. OfC 1;
+  located = λ symbol. ObjectAt object_at;
 }
 
 abbrev pub program : ℕ → Linked

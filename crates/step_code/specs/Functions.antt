@@ -7,7 +7,8 @@ use Rattle.mx_base.specs.StopOfC.{AccessOfC}
 use Rattle.x86_forms.specs.declared.instr.Instr.{Instr}
 use Rattle.fat_ir.specs.declared.program.FatFun.{FatFun}
 use Rattle.fat_ir.specs.Functions.{Parameter}
-use Rattle.step_code.specs.Pieces.{Piece, Plain}
+use Rattle.step_code.specs.declared.pieces.Piece.{Piece}
+use Rattle.step_code.specs.declared.pieces.Piece.TheVariants.{Plain}
 use Rattle.step_code.specs.Steps.{Plan, end_pieces}
 use Rattle.step_code.specs.Homes.{Assigned}
 use Rattle.step_code.specs.Homing.{homing, taken, Clear, FineArguments}
