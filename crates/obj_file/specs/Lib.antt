@@ -1,5 +1,6 @@
 pub mod InTurn
 pub mod Fields
+pub mod FaultText
 pub mod Versions
 pub mod Image
 pub mod ImageReading

@@ -17,6 +17,11 @@ pub enum FormFault {
 }
 
 impl fmt::Display for FormFault {
+    ghost use Rattle.std.specs.Prelude.{Some};
+    ghost use Rattle.obj_file.specs.FaultText.{text_of};
+
+    ghost output = { λ fault. Some (text_of fault) };
+
     fn fmt<W: fmt::Write>(&self, f: &mut fmt::Formatter<W>) -> fmt::Result {
         match self {
             FormFault::BadForm { at } => write!(f, "BadForm at {at}"),
