@@ -13,6 +13,7 @@ use Rattle.step_code.proofs.Sizes.{four_bytes}
 use Rattle.std.proofs.Common.{◌≡◌, ℕ, suc, ◌+◌, ◌*◌, ◌<◌, ◌≤◌, inl, inr, Bool, true, Option, None, Some, List, [], ◌∷◌, length, refl, arith, ap, ◌∙◌, sym, subst}
 use Rattle.std.proofs.lemmas.Bool.{and_parts}
 use Rattle.std.proofs.lemmas.Bool.Decides.{nat_tests}
+use Rattle.program_laws.specs.Levels.{Do}
 use Rattle.program_laws.specs.Borders.{moment_of, setting_of}
 use Rattle.program_laws.specs.Functions.{signature_of, entry_of, entries_of, is_there, are_arguments, is_pointer_result, returns_in, takes_in}
 use Rattle.std.specs.Prelude.{nat_lt}
@@ -209,3 +210,11 @@ module _ (k : Linkage) (image : Bytes) (places : ℕ → Option AccessOfC) (read
     calls_there symbol args xs v y n next takes_it h stand =
         let parts = and_parts (is_there k (l.targets symbol)) (are_arguments (signature_of k (l.targets symbol)).parameters args) takes_it in
         by_target (l.targets symbol) (returns_in k l symbol) args xs v y n next parts.0 (gives_pointer (signature_of k (l.targets symbol)).result) parts.1 h stand
+
+-- the same of all that is asked of calls
+pub do_there : (k : Linkage) (image : Bytes) (places : ℕ → Option AccessOfC) (inner stub : ℕ → ℕ) (l : Linked) → IsReader k.reads
+    → (frozen : Bytes) (sp units depth : ℕ) (label_at : ℕ → ℕ) (ok : IsSetting (setting_of k image frozen sp units depth label_at (entries_of inner stub l)))
+    (d : ℕ) → depth + d ≡ 4096 → control_stack.from + 4088 * d + 112 ≤ sp → (p : Plan) (own other : Callee) → Do k image places inner stub d own other
+    → core.Calls (setting_of k image frozen sp units depth label_at (entries_of inner stub l)) ok p places (symbols_of l own other) (returns_in k l) (takes_in k l)
+do_there k image places inner stub l reader frozen sp units depth label_at ok d deep room p own other h =
+    calls_there k image places reader frozen sp units depth label_at inner stub l ok d deep room p own other h.calls_own h.calls_other h.left_own h.left_other

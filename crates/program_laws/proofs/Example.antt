@@ -28,7 +28,7 @@ use Rattle.gate_laws.specs.Moments.{moment_at_start}
 use Rattle.gate_laws.specs.Owed.{IsLinked, IsOuter}
 use Rattle.gate_laws.specs.Placed.{HasCode, IsPlaced}
 use Rattle.gate_laws.proofs.Placing.{placed_by_bytes}
-use Rattle.program_laws.specs.Functions.{IsFunction, AreFunctions, entries_of}
+use Rattle.program_laws.specs.Functions.{IsFunction, HasFunctions, entries_of}
 use Rattle.program_laws.specs.Examples.{main_steps, f_steps, linked_main, linked_f, program, is_bounds, homes_of_main, homes_of_f, first_of, last_of, main_at, f_at, stub_at, plan_of, layout_of_main, layout_of_f, signature_of_main, signature_of_f, inner_at, stubs_at, linkage, image, places, why_of}
 use Rattle.program_laws.proofs.Whole.{program_does}
 
@@ -260,7 +260,7 @@ module _ (reads : List ℕ → Reading) (preserve : Bool) where
     );
   }
 
-  pub are_functions : AreFunctions k image places program inner_at stubs_at
+  are_functions : (f : ℕ) → f < 2 → IsFunction k image places inner_at stubs_at (program f) f
   are_functions zero few = main_is
   are_functions (suc zero) few = f_is
   are_functions (suc (suc n)) few = absurd (omega arith)
@@ -273,6 +273,9 @@ module _ (reads : List ℕ → Reading) (preserve : Bool) where
 module _ (reads : List ℕ → Reading) (reader : IsReader reads) (preserve : Bool) where
   abbrev j : Linkage
   j = linkage reads preserve
+
+  pub has_functions : HasFunctions j image places inner_at stubs_at program
+  has_functions = record { reader = reader; few = omega arith; each = are_functions reads preserve; placed = no_place }
 
   start_there : IsPlaced j image start_at (start_gate main_at)
   unfolding list_at low_bytes mod_of disp_bytes scale_code modrm sib over_base mem_bytes rm_bytes index_high base_high rm_high high_bits is_low rm_is_low forces_rex rex_bits rex_bytes prefix_bytes escape_bytes operand_bytes as_signed
@@ -310,5 +313,5 @@ module _ (reads : List ℕ → Reading) (reader : IsReader reads) (preserve : Bo
   -- so it ends as its steps do, over any memory that it is loaded in
   pub example_ends : (y : Stored) → HasCode image y → y.bounds ≡ empty_store → (input : List ℕ) → InputFits input → (turns : ℕ)
       → ProgramEnds j image places (moment_at_start j y input turns) (program_run program (outside j) 0 (world_at_start y.bytes input turns))
-  example_ends y code empty input fits turns = program_does j image places program inner_at stubs_at reader no_place (are_functions reads preserve) is_linked
+  example_ends y code empty input fits turns = program_does j image places program inner_at stubs_at has_functions is_linked
       0 y.bytes y record { few = omega arith; is_main = refl; start = start_there; code = code; unsealed = λ a free. refl; empty = empty } input fits turns

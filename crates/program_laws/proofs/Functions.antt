@@ -141,7 +141,7 @@ module _ (k : Linkage) (image : Bytes) (places : ℕ → Option AccessOfC) (read
     homed n = place_homes U ok l.fun.steps fn.layout.plan fn.layout.first fn.layout.last l fn.sorts fn.assigned (k.own f).parameters fn.base fn.few_taken fn.clear fn.parameters_fine args v0 y3 n seen0 fn.homing_laid arrived
 
     -- the steps begin
-    pub begins : Begins k image inner stub l fn.layout fn.assigned fn.base m args x0
+    pub begins : Begins k image places inner stub l fn.layout fn.assigned fn.base m args x0
     begins =
         let went = reached in
         let h = homed went.0 in

@@ -32,7 +32,7 @@ use Rattle.gate_laws.proofs.Straight.{placed_front, placed_back}
 use Rattle.program_laws.specs.Functions.{IsFunction, entries_of}
 use Rattle.program_laws.proofs.Sized.{Sizes, AreSizes, counts, enters, inner_entry, inner_return}
 use Rattle.program_laws.proofs.Functions.{Parts, enters_so as function_enters}
-use Rattle.program_laws.specs.Entering.{Enters}
+use Rattle.program_laws.specs.Entering.{EntersFunction}
 use Rattle.fat_ir.specs.Values.{Value}
 use Rattle.mx_base.specs.World.{World}
 use Rattle.gate_laws.specs.Moments.{Moment}
@@ -258,6 +258,6 @@ module _ (k : Linkage) (image : Bytes) (places : ℕ → Option AccessOfC) (read
 
   -- how a call begins
   pub call_enters : (d : ℕ) (args : List Value) (w : World) (m : Moment) → AtCall k image (suc d) 64 (inner f) (k.own f) args w m
-      → Enters k image places inner stub l lay fn.homes.assigned (steps_at l.fun l.parameters lay (inner f)) m args w
+      → EntersFunction k image places inner stub l f fn m args w
   unfolding parts
   call_enters d args w m call = function_enters k image places reader inner stub l f parts d args w m call

@@ -13,5 +13,15 @@ moment_of v y n = record { state = state_of v y n; turns = v.world.turns; access
 
 -- the setting of a function in an image, above the control stack as it is
 abbrev pub setting_of : Linkage → Bytes → (frozen : Bytes) → (sp units depth : ℕ) → (label_at entry_at : ℕ → ℕ) → Setting
-setting_of k image frozen sp units depth label_at entry_at =
-    record { reads = k.reads; outers = k.outers; preserve = k.preserve; code = image; frozen = frozen; sp = sp; units = units; depth = depth; label_at = label_at; entry_at = entry_at }
+setting_of k image frozen sp units depth label_at entry_at = record {
+  reads = k.reads;
+  outers = k.outers;
+  preserve = k.preserve;
+  code = image;
+  frozen = frozen;
+  sp = sp;
+  units = units;
+  depth = depth;
+  label_at = label_at;
+  entry_at = entry_at;
+}

@@ -41,7 +41,8 @@ main_steps = record {
   temps = 4;
   bounds = false ∷ false ∷ true ∷ false ∷ [];
   frame = 0;
-  steps = s.Place 1 2 (Some 1) 0 4 ∷ s.Const 0 7 ∷ s.Judge 1 4 2 true place_of_write ∷ s.Store 1 0 I32 ∷ s.Call 0 ((0, None) ∷ (1, Some 2) ∷ []) (Some 3) None ∷ s.Give (Some 3) None ∷ [];
+  steps = s.Place 1 2 (Some 1) 0 4 ∷ s.Const 0 7 ∷ s.Judge 1 4 2 true place_of_write ∷ s.Store 1 0 I32
+      ∷ s.Call 0 ((0, None) ∷ (1, Some 2) ∷ []) (Some 3) None ∷ s.Give (Some 3) None ∷ [];
 }
 
 -- in `f`, 0 is a, 1 and 2 are p, and 3 is what p points to
@@ -147,7 +148,15 @@ stubs_at g = stub_at
 
 -- a legacy function, which nothing calls, has a stub too
 abbrev pub linkage : (List ℕ → Reading) → (preserve : Bool) → Linkage
-linkage reads preserve = record { reads = reads; preserve = preserve; outers = 2; own = signatures; stubs = 1; legacy = λ g. signature_of_f; begins = λ g. 0x1200_0000 }
+linkage reads preserve = record {
+  reads = reads;
+  preserve = preserve;
+  outers = 2;
+  own = signatures;
+  stubs = 1;
+  legacy = λ g. signature_of_f;
+  begins = λ g. 0x1200_0000;
+}
 
 abbrev pub bytes_of_main : List ℕ
 bytes_of_main = bytes_of_function main_steps [] layout_of_main (entries_of inner_at stubs_at linked_main) main_at
@@ -155,21 +164,30 @@ bytes_of_main = bytes_of_function main_steps [] layout_of_main (entries_of inner
 abbrev pub bytes_of_f : List ℕ
 bytes_of_f = bytes_of_function f_steps linked_f.parameters layout_of_f (entries_of inner_at stubs_at linked_f) f_at
 
--- bytes from an address on
-abbrev pub within : (from : ℕ) → List ℕ → (a : ℕ) → (other : ℕ) → ℕ
-within from bytes a other = if nat_le from a && nat_lt a (from + length bytes) then slice_index_or bytes (a - from) 0 else other
+-- bytes from addresses on
+abbrev pub parts_of_image : List (ℕ × List ℕ)
+parts_of_image =
+    (start_at, bytes_of_code (start_gate main_at)) ∷ (landing_at, bytes_of_code landing_gate)
+    ∷ (0x0101_0000, bytes_of_code (outer_gate signature_of_main main_at 0x0101_0000))
+    ∷ (0x0101_0080, bytes_of_code (outer_gate signature_of_f f_at 0x0101_0080))
+    ∷ (main_at, bytes_of_main) ∷ (f_at, bytes_of_f)
+    ∷ (stub_at, bytes_of_code (stub_gate signature_of_f 0x1200_0000 stub_at)) ∷ []
+
+abbrev pub byte_among : List (ℕ × List ℕ) → ℕ → ℕ
+byte_among [] a = 0
+byte_among (x ∷ rest) a = if nat_le x.0 a && nat_lt a (x.0 + length x.1) then slice_index_or x.1 (a - x.0) 0 else byte_among rest a
 
 abbrev pub image : Bytes
-image = λ a. within start_at (bytes_of_code (start_gate main_at)) a (within landing_at (bytes_of_code landing_gate) a
-    (within 0x0101_0000 (bytes_of_code (outer_gate signature_of_main main_at 0x0101_0000)) a (within 0x0101_0080 (bytes_of_code (outer_gate signature_of_f f_at 0x0101_0080)) a
-    (within main_at bytes_of_main a (within f_at bytes_of_f a (within stub_at (bytes_of_code (stub_gate signature_of_f 0x1200_0000 stub_at)) a 0))))))
+image = byte_among parts_of_image
 
 abbrev pub access_among : List (ℕ × AccessOfC) → ℕ → Option AccessOfC
 access_among [] a = None
 access_among (x ∷ rest) a = if a == x.0 then Some x.1 else access_among rest a
 
 abbrev pub places : ℕ → Option AccessOfC
-places = access_among (places_of_steps layout_of_main.plan (steps_at main_steps [] layout_of_main main_at) main_steps.steps ++ places_of_steps layout_of_f.plan (steps_at f_steps linked_f.parameters layout_of_f f_at) f_steps.steps)
+places = access_among (
+    places_of_steps layout_of_main.plan (steps_at main_steps [] layout_of_main main_at) main_steps.steps
+    ++ places_of_steps layout_of_f.plan (steps_at f_steps linked_f.parameters layout_of_f f_at) f_steps.steps)
 
 -- ---- what the program comes to
 

@@ -1,9 +1,11 @@
 -- What is owed of each C function so that its code does its steps: its code stands in the image, its homes fit, and its steps are what code
 -- asks of them.
-use Rattle.std.specs.Prelude.{◌≡◌, ◌<◌, ◌&&◌, ℕ, nat_lt, Bool, true, false, Option, None, Some, List, [], ◌∷◌}
+use Rattle.std.specs.Prelude.{◌≡◌, ◌<◌, ◌≤◌, ◌&&◌, ℕ, nat_lt, Bool, true, false, Option, None, Some, List, [], ◌∷◌}
 use Rattle.mx_base.specs.declared.numbers.IntKind.{IntKind}
 use Rattle.mx_base.specs.Memory.{Bytes}
 use Rattle.mx_base.specs.StopOfC.{AccessOfC}
+use Rattle.x86_forms.specs.Watch.{is_legacy}
+use Rattle.obj_file.specs.Machine.{IsReader}
 use Rattle.fat_ir.specs.Functions.{Linked, Target, OfC, Outside}
 use Rattle.step_code.specs.Asked.{FineSteps}
 use Rattle.step_code.specs.Functions.{Layout, IsWritten, HomesFit}
@@ -55,15 +57,20 @@ takes_in k l symbol args = is_there k (l.targets symbol) && are_arguments (signa
 
 -- ---- functions
 
--- of one C function: the image has its code, its homes fit, one whose signature gives a pointer gives bounds, and its steps are what
--- code asks of them
-pub record IsFunction (k : Linkage) (image : Bytes) (places : ℕ → Option AccessOfC) (inner stub : ℕ → ℕ) (l : Linked) (f : ℕ) : Type 0 where
-  pub layout : Layout
-  pub written : IsWritten l.fun l.parameters layout image places (entries_of inner stub l) (inner f)
-  pub homes : HomesFit l.fun l.parameters layout (k.own f).parameters (pointers (k.own f).parameters)
-  pub pointer : (k.own f).result ≡ Pointer → layout.plan.pointer ≡ true
-  pub steps : FineSteps layout.units layout.plan l.located l.fun.steps layout.first layout.last (returns_in k l) (takes_in k l) 0 l.fun.steps
+module _ (k : Linkage) (image : Bytes) (places : ℕ → Option AccessOfC) (inner stub : ℕ → ℕ) where
+  -- of one C function: the image has its code, its homes fit, one whose signature gives a pointer gives bounds, and its steps are what
+  -- code asks of them
+  pub record IsFunction (l : Linked) (f : ℕ) : Type 0 where
+    pub layout : Layout
+    pub written : IsWritten l.fun l.parameters layout image places (entries_of inner stub l) (inner f)
+    pub homes : HomesFit l.fun l.parameters layout (k.own f).parameters (pointers (k.own f).parameters)
+    pub pointer : (k.own f).result ≡ Pointer → layout.plan.pointer ≡ true
+    pub steps : FineSteps layout.units layout.plan l.located l.fun.steps layout.first layout.last (returns_in k l) (takes_in k l)
+        0 l.fun.steps
 
--- of all C functions of a program
-abbrev pub AreFunctions : Linkage → Bytes → (ℕ → Option AccessOfC) → (program : ℕ → Linked) → (inner stub : ℕ → ℕ) → Type 0
-AreFunctions k image places program inner stub = (f : ℕ) → f < k.outers → IsFunction k image places inner stub (program f) f
+  -- of the functions of a program: bytes are read exactly, functions are at most 65,536, each is so, and no check stands in legacy code
+  pub record HasFunctions (program : ℕ → Linked) : Type 0 where
+    pub reader : IsReader k.reads
+    pub few : k.outers ≤ 65536
+    pub each : (f : ℕ) → f < k.outers → IsFunction (program f) f
+    pub placed : (a : ℕ) → is_legacy a ≡ true → places a ≡ None

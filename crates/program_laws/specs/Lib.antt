@@ -1,4 +1,5 @@
 pub mod Borders
-pub mod Functions
 pub mod Entering
 pub mod Examples
+pub mod Functions
+pub mod Levels

@@ -1,98 +1,109 @@
 //! Laws of the code of functions in an image with gates. Each function does nothing, and its contract is the law.
 
-ghost use Rattle.std.specs.Prelude.{◌≡◌, ◌<◌, ◌≤◌, ℕ, suc, ◌+◌, ◌*◌, Bool, true, None, Some, Option, List, length};
+ghost use Rattle.std.specs.Prelude.{◌≡◌, ◌<◌, ◌≤◌, ℕ, suc, ◌+◌, ◌*◌, Bool, Some, Option, List, length};
 ghost use Rattle.mx_base.specs.BoundsStore.{empty_store};
 ghost use Rattle.mx_base.specs.Guests.{InputFits};
 ghost use Rattle.mx_base.specs.Memory.{Bytes};
 ghost use Rattle.mx_base.specs.Regions.{control_stack};
 ghost use Rattle.mx_base.specs.StopOfC.{AccessOfC, Exit};
 ghost use Rattle.mx_base.specs.World.{World, Log, world_at_start};
-ghost use Rattle.x86_forms.specs.Watch.{is_legacy};
 ghost use Rattle.obj_file.specs.Machine.{Reading, IsReader};
 ghost use Rattle.obj_file.specs.Stored.{Stored};
 ghost use Rattle.fat_ir.specs.Calls.{Callee};
-ghost use Rattle.fat_ir.specs.Functions.{Linked, calls, program_run, symbols_of};
-ghost use Rattle.fat_ir.specs.Laws.{FramesGivenBack, LeftByCalls, NoMoreTurns};
+ghost use Rattle.fat_ir.specs.Functions.{Linked, program_run, symbols_of};
 ghost use Rattle.fat_ir.specs.Values.{Value};
 ghost use Rattle.bounds_plan.specs.Compiled.{FitsProgram, all_compiled, parameters_of};
 ghost use Rattle.bounds_plan.specs.Follows.{outcome_of};
 ghost use Rattle.bounds_plan.specs.Functions.{Linked as LinkedInC, program_run as program_run_in_c};
-ghost use Rattle.step_code.specs.Functions.{steps_at};
 ghost use Rattle.step_code.specs.Steps.{Plan};
 ghost use Rattle.code_laws.specs.Runs.{Calls as CallsInCode};
 ghost use Rattle.code_laws.specs.Seen.{IsSetting};
 ghost use Rattle.legacy_calls.specs.Legacy.{Linkage, outside};
 ghost use Rattle.legacy_calls.specs.OfC.{outside_of_c};
-ghost use Rattle.gate_laws.specs.Crossings.{ProgramEnds, deeper};
+ghost use Rattle.gate_laws.specs.Crossings.{ProgramEnds};
 ghost use Rattle.gate_laws.specs.Moments.{Moment, moment_at_start};
 ghost use Rattle.gate_laws.specs.Owed.{IsLinked, IsLoaded, Layers};
 ghost use Rattle.gate_laws.specs.Placed.{HasCode};
-ghost use Rattle.gate_laws.specs.Standing.{AtCall, Calls};
+ghost use Rattle.gate_laws.specs.Standing.{AtCall};
 ghost use Rattle.program_laws.specs.Borders.{setting_of};
-ghost use Rattle.program_laws.specs.Entering.{Enters};
+ghost use Rattle.program_laws.specs.Entering.{EntersFunction};
 ghost use Rattle.program_laws.specs.Examples.{linkage, image, places, program, inner_at, stubs_at, why_of};
-ghost use Rattle.program_laws.specs.Functions.{AreFunctions, entries_of, returns_in, takes_in};
+ghost use Rattle.program_laws.specs.Functions.{HasFunctions, entries_of, returns_in, takes_in};
+ghost use Rattle.program_laws.specs.Levels.{Do, DoDeeper, StopDeepest};
 
 /// Calls at the border are what the code of a function asks of its calls: if all calls of C functions and of legacy functions do what they
-/// mean, over so many functions that may still be entered, then so do the calls in the code, by the targets of its symbols, as long as
-/// the control stack has the room.
+/// mean, where so many functions may still be entered, then so do the calls in the code, by the targets of its symbols, as long as the
+/// control stack has the room.
 pub fn calls_at_the_border_are_calls_of_code()
-    ensures { (k : Linkage) (image : Bytes) (places : ℕ → Option AccessOfC) → IsReader k.reads → (frozen : Bytes) (sp units depth : ℕ) (label_at inner stub : ℕ → ℕ) (l : Linked)
-        (ok : IsSetting (setting_of k image frozen sp units depth label_at (entries_of inner stub l))) (d : ℕ) → depth + d ≡ 4096 → control_stack.from + 4088 * d + 112 ≤ sp
-        → (p : Plan) (own other : Callee) → Calls k image places d 64 k.outers inner k.own own → Calls k image places d 112 k.stubs stub k.legacy other → LeftByCalls NoMoreTurns own → LeftByCalls NoMoreTurns other
-        → CallsInCode (setting_of k image frozen sp units depth label_at (entries_of inner stub l)) ok p places (symbols_of l own other) (returns_in k l) (takes_in k l) }
+    ensures { (k : Linkage) (image : Bytes) (places : ℕ → Option AccessOfC) (inner stub : ℕ → ℕ) (l : Linked) → IsReader k.reads
+        → (frozen : Bytes) (sp units depth : ℕ) (label_at : ℕ → ℕ)
+        (ok : IsSetting (setting_of k image frozen sp units depth label_at (entries_of inner stub l)))
+        (d : ℕ) → depth + d ≡ 4096 → control_stack.from + 4088 * d + 112 ≤ sp
+        → (p : Plan) (own other : Callee) → Do k image places inner stub d own other
+        → CallsInCode (setting_of k image frozen sp units depth label_at (entries_of inner stub l)) ok p places
+        (symbols_of l own other) (returns_in k l) (takes_in k l) }
 {}
 
-/// The call of a C function takes a turn, and then its entry leads to its first step, with the arguments and the private variables in their
-/// homes and the frame taken from the data stack; or the machine stops, since the data stack has no room for the frame.
+/// The call of a C function takes a turn, and then its entry leads to its first step, with the arguments and the private variables in
+/// their homes and the frame taken from the data stack; or the machine stops, since the data stack has no room for the frame.
 pub fn entries_lead_to_the_first_step()
-    ensures { (k : Linkage) (image : Bytes) (places : ℕ → Option AccessOfC) → IsReader k.reads → k.outers ≤ 65536 → (program : ℕ → Linked) (inner stub : ℕ → ℕ) (functions : AreFunctions k image places program inner stub)
+    ensures { (k : Linkage) (image : Bytes) (places : ℕ → Option AccessOfC) (program : ℕ → Linked) (inner stub : ℕ → ℕ)
+        (has : HasFunctions k image places inner stub program)
         (d f : ℕ) (few : f < k.outers) (args : List Value) (w : World) (m : Moment) → AtCall k image (suc d) 64 (inner f) (k.own f) args w m
-        → Enters k image places inner stub (program f) (functions f few).layout (functions f few).homes.assigned (steps_at (program f).fun (program f).parameters (functions f few).layout (inner f)) m args w }
+        → EntersFunction k image places inner stub (program f) f (has.each f few) m args w }
 {}
 
 /// The code of C functions does their steps, from call to return: if what they call does what it means, so do they, one level deeper. And
 /// where as many functions are entered as may be, a call stops for want of stack.
 pub fn functions_do_their_steps()
-    ensures deeper { (k : Linkage) (image : Bytes) (places : ℕ → Option AccessOfC) → IsReader k.reads → k.outers ≤ 65536 → (program : ℕ → Linked) (inner stub : ℕ → ℕ) → AreFunctions k image places program inner stub
-        → (d : ℕ) (own other : Callee) → Calls k image places d 64 k.outers inner k.own own → Calls k image places d 112 k.stubs stub k.legacy other
-        → LeftByCalls NoMoreTurns own → LeftByCalls NoMoreTurns other → FramesGivenBack own → FramesGivenBack other → Calls k image places (suc d) 64 k.outers inner k.own (deeper program own other) }
-    ensures deepest { (k : Linkage) (image : Bytes) (places : ℕ → Option AccessOfC) → IsReader k.reads → k.outers ≤ 65536 → (program : ℕ → Linked) (inner stub : ℕ → ℕ) → AreFunctions k image places program inner stub
-        → Calls k image places 0 64 k.outers inner k.own (calls program (outside k) 0) }
+    ensures deeper { (k : Linkage) (image : Bytes) (places : ℕ → Option AccessOfC) (program : ℕ → Linked) (inner stub : ℕ → ℕ)
+        → HasFunctions k image places inner stub program → DoDeeper k image places inner stub program }
+    ensures deepest { (k : Linkage) (image : Bytes) (places : ℕ → Option AccessOfC) (program : ℕ → Linked) (inner stub : ℕ → ℕ)
+        → HasFunctions k image places inner stub program → StopDeepest k image places inner stub program }
 {}
 
 /// So the code of functions is what the gates ask of it.
 pub fn functions_meet_what_gates_ask()
-    ensures { (k : Linkage) (image : Bytes) (places : ℕ → Option AccessOfC) → IsReader k.reads → k.outers ≤ 65536 → (program : ℕ → Linked) (inner stub : ℕ → ℕ) → AreFunctions k image places program inner stub
-        → ((a : ℕ) → is_legacy a ≡ true → places a ≡ None) → Layers k image places program inner stub }
+    ensures { (k : Linkage) (image : Bytes) (places : ℕ → Option AccessOfC) (program : ℕ → Linked) (inner stub : ℕ → ℕ)
+        → HasFunctions k image places inner stub program → Layers k image places program inner stub }
 {}
 
 /// The run of an image from its start ends as its program of steps does, for every input of bytes, number of turns and value of
 /// BNDPRESERVE: with the same stop, output, input left, bounds kept and accesses for C, and with nothing but walks and servings in the
 /// directory and the tables. The gates and the code of the functions stand in the image, homes fit, and the steps are what code asks.
 pub fn images_end_as_their_steps_do()
-    ensures { (k : Linkage) (image : Bytes) (places : ℕ → Option AccessOfC) (program : ℕ → Linked) (inner stub : ℕ → ℕ) → IsReader k.reads → ((a : ℕ) → is_legacy a ≡ true → places a ≡ None)
-        → AreFunctions k image places program inner stub → IsLinked k image inner stub
-        → (main : ℕ) (bytes : Bytes) (y : Stored) → IsLoaded k image inner main bytes y → (input : List ℕ) → InputFits input → (turns : ℕ)
-        → ProgramEnds k image places (moment_at_start k y input turns) (program_run program (outside k) main (world_at_start bytes input turns)) }
+    ensures { (k : Linkage) (image : Bytes) (places : ℕ → Option AccessOfC) (program : ℕ → Linked) (inner stub : ℕ → ℕ)
+        → HasFunctions k image places inner stub program → IsLinked k image inner stub
+        → (main : ℕ) (bytes : Bytes) (y : Stored) → IsLoaded k image inner main bytes y
+        → (input : List ℕ) → InputFits input → (turns : ℕ)
+        → ProgramEnds k image places (moment_at_start k y input turns)
+        (program_run program (outside k) main (world_at_start bytes input turns)) }
 {}
 
 /// And so it ends as the program means in C, where the steps are those that it is compiled to.
 pub fn images_end_as_their_sources_mean()
-    ensures { (k : Linkage) (image : Bytes) (places : ℕ → Option AccessOfC) (takes_outside : ℕ → ℕ) (program : ℕ → LinkedInC) (name inner stub : ℕ → ℕ)
-        → FitsProgram takes_outside program → ((f : ℕ) → parameters_of program f ≡ length (k.own f).parameters) → IsReader k.reads → ((a : ℕ) → is_legacy a ≡ true → places a ≡ None)
-        → AreFunctions k image places (all_compiled name program) inner stub → IsLinked k image inner stub
-        → (main : ℕ) (bytes : Bytes) (y : Stored) → IsLoaded k image inner main bytes y → (input : List ℕ) → InputFits input → (turns : ℕ) (log : Log)
-        → ProgramEnds k image places (moment_at_start k y input turns) (outcome_of (program_run_in_c program (outside_of_c k) main (world_at_start bytes input turns) log)) }
+    ensures { (k : Linkage) (image : Bytes) (places : ℕ → Option AccessOfC) (takes_outside : ℕ → ℕ) (program : ℕ → LinkedInC)
+        (name inner stub : ℕ → ℕ) → FitsProgram takes_outside program
+        → ((f : ℕ) → parameters_of program f ≡ length (k.own f).parameters)
+        → HasFunctions k image places inner stub (all_compiled name program) → IsLinked k image inner stub
+        → (main : ℕ) (bytes : Bytes) (y : Stored) → IsLoaded k image inner main bytes y
+        → (input : List ℕ) → InputFits input → (turns : ℕ) (log : Log)
+        → ProgramEnds k image places (moment_at_start k y input turns)
+        (outcome_of (program_run_in_c program (outside_of_c k) main (world_at_start bytes input turns) log)) }
 {}
 
 /// A whole image of two C functions meets all that is asked, over any exact reader: `main` keeps 7 in an object and gives what
 /// `int f(int a, int *p) { return *p; }` gives for it. So its run ends as its steps do, over any memory that it is loaded in; and these
 /// exit with 7 where four turns are left, for two calls and two returns.
 pub fn a_small_image_meets_what_is_asked()
-    ensures functions { (reads : List ℕ → Reading) (preserve : Bool) → AreFunctions (linkage reads preserve) image places program inner_at stubs_at }
-    ensures linked { (reads : List ℕ → Reading) → IsReader reads → (preserve : Bool) → IsLinked (linkage reads preserve) image inner_at stubs_at }
-    ensures run { (reads : List ℕ → Reading) → IsReader reads → (preserve : Bool) (y : Stored) → HasCode image y → y.bounds ≡ empty_store → (input : List ℕ) → InputFits input → (turns : ℕ)
-        → ProgramEnds (linkage reads preserve) image places (moment_at_start (linkage reads preserve) y input turns) (program_run program (outside (linkage reads preserve)) 0 (world_at_start y.bytes input turns)) }
-    ensures meaning { (reads : List ℕ → Reading) (preserve : Bool) (bytes : Bytes) (input : List ℕ) → why_of (program_run program (outside (linkage reads preserve)) 0 (world_at_start bytes input 4)) ≡ Some (Exit 7) }
+    ensures functions { (reads : List ℕ → Reading) → IsReader reads → (preserve : Bool)
+        → HasFunctions (linkage reads preserve) image places inner_at stubs_at program }
+    ensures linked { (reads : List ℕ → Reading) → IsReader reads → (preserve : Bool)
+        → IsLinked (linkage reads preserve) image inner_at stubs_at }
+    ensures run { (reads : List ℕ → Reading) → IsReader reads → (preserve : Bool) (y : Stored) → HasCode image y → y.bounds ≡ empty_store
+        → (input : List ℕ) → InputFits input → (turns : ℕ)
+        → ProgramEnds (linkage reads preserve) image places (moment_at_start (linkage reads preserve) y input turns)
+        (program_run program (outside (linkage reads preserve)) 0 (world_at_start y.bytes input turns)) }
+    ensures meaning { (reads : List ℕ → Reading) (preserve : Bool) (bytes : Bytes) (input : List ℕ)
+        → why_of (program_run program (outside (linkage reads preserve)) 0 (world_at_start bytes input 4)) ≡ Some (Exit 7) }
 {}

@@ -1,8 +1,8 @@
 //! The run of an image ends as its program does. What is owed of each C function is said in its own words (`Functions`): the image has
 //! its code, its homes fit, and its steps are what code asks of them. From there its entry leads to its first step (`Entering`), its
-//! code does the steps, and its return leads back behind the call; so all calls do what they mean, by induction on the functions that
-//! may still be entered, and with the gates the whole run. The definitions stand in specs/; the functions here do nothing, and their
-//! contracts are the laws.
+//! code does the steps, and its return leads back behind the call; so all calls do what they mean (`Levels`), by induction on the
+//! functions that may still be entered, and with the gates the whole run. The definitions stand in specs/; the functions here do
+//! nothing, and their contracts are the laws.
 #![tactic(auto)]
 
 mod laws;

@@ -72,8 +72,8 @@ module _ (f : FatFun) (parameters : List Parameter) (l : Layout) where
   -- ---- its homes
 
   -- in a frame of at most 504 words, and a data frame of at most 64 MB: homes are assigned, private values have the sorts that the
-  -- function says, and none that is set before an argument comes to its home holds that argument; among arguments of these kinds are so many
-  -- pointers
+  -- function says, and none that is set before an argument comes to its home holds that argument; among arguments of these kinds are
+  -- so many pointers
   pub record HomesFit (kinds : List (Option IntKind)) (pointers : ℕ) : Type 0 where
     pub few_words : l.units ≤ 504
     pub few_bytes : f.frame ≤ 0x0400_0000
