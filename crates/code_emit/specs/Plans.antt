@@ -1,0 +1,17 @@
+-- What the code of a function goes by, of the parts that are passed around.
+use Rattle.std.specs.Prelude.{false, if◌then◌else◌, slice_index_or}
+use Rattle.fat_ir.specs.Step.{ObjectAt, FunctionAt}
+use Rattle.step_code.specs.declared.homes.Home.TheVariants.{Reg}
+use Rattle.step_code.specs.Steps.{Plan}
+use Rattle.code_emit.specs.declared.plan.FunctionPlan.{FunctionPlan}
+
+-- before linking each symbol stands at 0
+abbrev pub plan_of : FunctionPlan → Plan
+plan_of q = record {
+  home = λ v. slice_index_or q.homes.now v (Reg 6);
+  is_bounds = λ v. slice_index_or q.bounds.now v false;
+  spare = q.spare;
+  exit = q.exit;
+  pointer = q.pointer;
+  located = λ s. if slice_index_or q.functions.now s false then FunctionAt 0 else ObjectAt 0;
+}

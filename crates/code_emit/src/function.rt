@@ -1,0 +1,100 @@
+//! The steps of a function as bytes, in two passes: where labels stand, and the bytes.
+
+ghost use Rattle.std.specs.Prelude.{◌≡◌, ◌+◌, ◌++◌, length, IfOk, OnOk};
+ghost use Rattle.step_code.specs.Steps.{lower};
+ghost use Rattle.step_code.specs.Bytes.{size_of_pieces, size_of_steps};
+ghost use Rattle.code_emit.specs.Plans.{plan_of};
+ghost use Rattle.code_emit.specs.Unlinked as u;
+
+use crate::bytes::{add, put_pieces, size_of_all};
+use crate::plan::FunctionPlan;
+use crate::steps::lower_step;
+use fat_ir::FatStep;
+use mx_base::OutOfMemory;
+use std::alloc::Global;
+use step_code::Piece;
+
+/// Notes where a label stands.
+fn note(labels: &mut Vec<u32>, step: &FatStep, at: u32)
+    ensures { labels.new.items ≡ u.noted at step.now labels.old.items }
+{
+    if let FatStep::Label { n } = step {
+        if let Some(slot) = labels.get_mut(*n as usize) {
+            *slot = at;
+        }
+    }
+}
+
+/// The pieces of a step.
+fn pieces_of(alloc: Global, p: &FunctionPlan, step: &FatStep) -> Result<Vec<Piece>, OutOfMemory>
+    ensures { IfOk result (λ pieces. pieces.items ≡ lower (plan_of p.now) step.now) }
+{
+    let mut pieces = Vec::new(alloc);
+    lower_step(&mut pieces, p, step)?;
+    Ok(pieces)
+}
+
+/// How many bytes a step has.
+fn size_of_step(alloc: Global, p: &FunctionPlan, step: &FatStep) -> Result<u32, OutOfMemory>
+    ensures { IfOk result (λ n. n ≡ size_of_pieces (lower (plan_of p.now) step.now)) }
+{
+    let pieces = pieces_of(alloc, p, step)?;
+    size_of_all(pieces.as_slice())
+}
+
+/// Notes the offset of each label of steps that begin at `from`, and answers where they end. `labels` has room for each label.
+///
+/// # Errors
+///
+/// `OutOfMemory`: no memory for the pieces of a step, or a number that no instruction has room for.
+pub fn note_labels(
+    alloc: Global,
+    labels: &mut Vec<u32>,
+    p: &FunctionPlan,
+    steps: &[FatStep],
+    from: u32,
+) -> Result<u32, OutOfMemory>
+    ensures labels { OnOk result (labels.new.items ≡ u.labels_noted (plan_of p.now) from steps.now labels.old.items) }
+    ensures end { IfOk result (λ n. n ≡ from + size_of_steps (plan_of p.now) steps.now) }
+{
+    let mut at = from;
+    'all: for step in steps {
+        note(labels, step, at);
+        at = add(at, size_of_step(alloc, p, step)?)?;
+    }
+    Ok(at)
+}
+
+/// The bytes of steps come behind those that are there. `labels` has the offset of each label.
+///
+/// # Errors
+///
+/// `OutOfMemory`: no memory for pieces or bytes, or a number that no instruction has room for.
+pub fn put_steps(
+    alloc: Global,
+    code: &mut Vec<u8>,
+    labels: &[u32],
+    p: &FunctionPlan,
+    steps: &[FatStep],
+) -> Result<(), OutOfMemory>
+    ensures { OnOk result (code.new.items ≡ code.old.items ++ u.unlinked_steps (plan_of p.now) labels.now (length code.old.items) steps.now) }
+{
+    'all: for step in steps {
+        put_step(alloc, code, labels, p, step)?;
+    }
+    Ok(())
+}
+
+/// The bytes of a step.
+fn put_step(
+    alloc: Global,
+    code: &mut Vec<u8>,
+    labels: &[u32],
+    p: &FunctionPlan,
+    step: &FatStep,
+) -> Result<(), OutOfMemory>
+    ensures { OnOk result (code.new.items ≡ code.old.items ++ u.unlinked_pieces labels.now (length code.old.items) (lower (plan_of p.now) step.now)) }
+{
+    let pieces = pieces_of(alloc, p, step)?;
+    put_pieces(code, labels, pieces.as_slice())
+}

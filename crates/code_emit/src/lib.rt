@@ -1,0 +1,17 @@
+//! The code of functions in bytes: each step as pieces, and pieces as bytes.
+#![tactic(auto)]
+
+mod arguments;
+mod bytes;
+mod entry;
+mod function;
+mod homes;
+mod numbers;
+mod operators;
+mod plan;
+mod steps;
+
+pub use entry::{end, inner_entry, inner_return};
+pub use function::{note_labels, put_steps};
+pub use plan::FunctionPlan;
+pub use steps::lower_step;

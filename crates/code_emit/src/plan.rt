@@ -1,0 +1,53 @@
+//! What the code of a function goes by.
+
+ghost use Rattle.std.specs.Prelude.{◌≡◌, false, slice_index_or};
+ghost use Rattle.code_emit.specs.Plans.{plan_of};
+
+use step_code::Home;
+
+/// What the code of a function goes by.
+#[derive(Clone, Copy)]
+pub struct FunctionPlan<'a> {
+    /// The home of each value, in the function's numbering.
+    pub homes: &'a [Home],
+    /// For each value, whether it is bounds.
+    pub bounds: &'a [bool],
+    /// The first of four spare words of the frame, counted from the stack pointer.
+    pub spare: u16,
+    /// The label of the end, which no step has.
+    pub exit: u32,
+    /// Whether the function gives a pointer.
+    pub pointer: bool,
+    /// For each symbol of the unit, whether it is a function.
+    pub functions: &'a [bool],
+}
+
+/// The home of a value.
+pub fn home(p: &FunctionPlan, v: u32) -> Home
+    ensures { result ≡ (plan_of p.now).home v }
+{
+    match p.homes.get(v as usize) {
+        Some(home) => *home,
+        None => Home::Reg(6),
+    }
+}
+
+/// Whether a value is bounds.
+pub fn is_bounds(p: &FunctionPlan, v: u32) -> bool
+    ensures { result ≡ (plan_of p.now).is_bounds v }
+{
+    match p.bounds.get(v as usize) {
+        Some(bounds) => *bounds,
+        None => false,
+    }
+}
+
+/// Whether a symbol is a function.
+pub fn is_function(functions: &[bool], symbol: u32) -> bool
+    ensures { result ≡ slice_index_or functions.now symbol false }
+{
+    match functions.get(symbol as usize) {
+        Some(function) => *function,
+        None => false,
+    }
+}
