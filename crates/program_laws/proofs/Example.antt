@@ -142,8 +142,8 @@ f_assigned = record {
   pair_fits = pairs_of_f;
 }
 
-main_homes : HomesFit main_steps [] layout_of_main [] 0
-main_homes = record { few_words = omega arith; few_bytes = omega arith; assigned = main_assigned; sorts = λ x few. absurd (omega arith); few_taken = omega arith; clear = λ x from few. absurd (omega arith); arguments = tt }
+main_homes : HomesFit main_steps [] layout_of_main []
+main_homes = record { few_words = omega arith; few_bytes = omega arith; assigned = main_assigned; sorts = λ x few. absurd (omega arith); few_taken = omega arith; arguments = tt }
 
 sorts_of_f : (x : ℕ) → x < 3 → slice_index_or f_steps.bounds x false ≡ is_bounds x
 sorts_of_f zero few = refl
@@ -151,20 +151,18 @@ sorts_of_f (suc zero) few = refl
 sorts_of_f (suc (suc zero)) few = refl
 sorts_of_f (suc (suc (suc n))) few = absurd (omega arith)
 
-not_rdi : (j : ℕ) → 1 ≤ j → j < 2 → nat_eq (arg_reg j) 7 ≡ false
-not_rdi zero from to = absurd (omega arith)
-not_rdi (suc zero) from to = refl
-not_rdi (suc (suc n)) from to = absurd (omega arith)
+not_rsi : (j : ℕ) → j < 1 → nat_eq (arg_reg j) 6 ≡ false
+not_rsi zero less = refl
+not_rsi (suc n) less = absurd (omega arith)
 
-f_homes : HomesFit f_steps linked_f.parameters layout_of_f signature_of_f.parameters 1
+f_homes : HomesFit f_steps linked_f.parameters layout_of_f signature_of_f.parameters
 f_homes = record {
   few_words = omega arith;
   few_bytes = omega arith;
   assigned = f_assigned;
   sorts = sorts_of_f;
   few_taken = omega arith;
-  clear = λ x from few. absurd (omega arith);
-  arguments = ((omega arith, refl, not_rdi), (((omega arith, refl, λ j from to. absurd (omega arith)), (omega arith, refl, λ t from to. absurd (omega arith))), tt));
+  arguments = ((omega arith, refl, λ j less. absurd (omega arith)), (((omega arith, refl, not_rsi), (omega arith, refl, λ t less. absurd (omega arith))), tt));
 }
 
 -- ---- code

@@ -1,6 +1,6 @@
 -- The code of a C function does its steps, one level deeper.
 use Rattle.call_sigs.specs.Signatures.{pointers, Pointer}
-use Rattle.step_code.specs.Homing.{homing, taken, Clear, FineArguments}
+use Rattle.step_code.specs.Homing.{homing, taken, FineArguments}
 use Rattle.mx_base.specs.StopOfC.{AccessOfC}
 use Rattle.gate_laws.specs.Moments.{Moment, Final}
 use Rattle.obj_file.specs.Finals.{final}
@@ -68,8 +68,7 @@ pub record Parts (k : Linkage) (image : Bytes) (places : ℕ → Option AccessOf
   pub homing_laid : StandAll image layout.label_at (entries_of inner stub l) (end_of (end_of (inner f) (counts sizes)) (enters sizes l.fun.frame layout.units)) (homing layout.plan l.fun.private l.parameters) base
   pub sorts : (x : ℕ) → x < l.fun.private → slice_index_or l.fun.bounds x false ≡ layout.plan.is_bounds x
   pub few_taken : taken l.parameters ≤ l.fun.private
-  pub clear : (x : ℕ) → taken l.parameters ≤ x → x < l.fun.private → Clear layout.plan layout.first (length (k.own f).parameters) (pointers (k.own f).parameters) 0 0 (layout.plan.home x)
-  pub parameters_fine : FineArguments layout.plan layout.first (length (k.own f).parameters) (pointers (k.own f).parameters) 0 l.fun.private 0 0 l.parameters (k.own f).parameters
+  pub parameters_fine : FineArguments layout.plan layout.first 0 l.fun.private 0 0 l.parameters (k.own f).parameters
 
 -- the data stack pointer stays while a body runs
 abbrev pub KeepsFrame : Linked → (own other : Callee) → Type 0
@@ -138,7 +137,7 @@ module _ (k : Linkage) (image : Bytes) (places : ℕ → Option AccessOfC) (read
         arrive_kept i b ps xs h = enter.arrive_kept k image places (inner f) fn.small (k.own f) args w m (suc d) call fn.sizes fn.sized fn.counts_placed (omega arith) frame fn.layout.units fn.few_bytes fn.few_words fn.enters_placed room j i b ps xs h
 
     homed : (n : ℕ) → Homed U fn.layout.units l.fun.private (values_at_entry l.fun l.parameters args) l.fun.steps fn.layout.plan fn.layout.first fn.layout.last fn.assigned fn.base (whole_of U v0 y3 n) x0
-    homed n = place_homes U ok l.fun.steps fn.layout.plan fn.layout.first fn.layout.last l fn.sorts fn.assigned (k.own f).parameters fn.base fn.few_taken fn.clear fn.parameters_fine args v0 y3 n seen0 fn.homing_laid arrived
+    homed n = place_homes U ok l.fun.steps fn.layout.plan fn.layout.first fn.layout.last l fn.sorts fn.assigned (k.own f).parameters fn.base fn.few_taken fn.parameters_fine args v0 y3 n seen0 fn.homing_laid arrived
 
     -- the steps begin
     pub begins : Begins k image places inner stub l fn.layout fn.assigned fn.base m args x0

@@ -249,7 +249,6 @@ module _ (k : Linkage) (image : Bytes) (places : ℕ → Option AccessOfC) (read
     homing_laid = subst (λ (a : ℕ). StandAll image label_at entry_at a B at2) (sym entry_placed.1) homing_stands.0;
     sorts = fn.homes.sorts;
     few_taken = fn.homes.few_taken;
-    clear = fn.homes.clear;
     parameters_fine = fn.homes.arguments;
   }
     where

@@ -63,7 +63,7 @@ module _ (k : Linkage) (image : Bytes) (places : ℕ → Option AccessOfC) (inne
   pub record IsFunction (l : Linked) (f : ℕ) : Type 0 where
     pub layout : Layout
     pub written : IsWritten l.fun l.parameters layout image places (entries_of inner stub l) (inner f)
-    pub homes : HomesFit l.fun l.parameters layout (k.own f).parameters (pointers (k.own f).parameters)
+    pub homes : HomesFit l.fun l.parameters layout (k.own f).parameters
     pub pointer : (k.own f).result ≡ Pointer → layout.plan.pointer ≡ true
     pub steps : FineSteps layout.units layout.plan l.located l.fun.steps layout.first layout.last (returns_in k l) (takes_in k l)
         0 l.fun.steps

@@ -11,7 +11,7 @@ use Rattle.step_code.specs.declared.pieces.Piece.{Piece}
 use Rattle.step_code.specs.declared.pieces.Piece.TheVariants.{Plain}
 use Rattle.step_code.specs.Steps.{Plan, end_pieces}
 use Rattle.step_code.specs.Homes.{Assigned}
-use Rattle.step_code.specs.Homing.{homing, taken, Clear, FineArguments}
+use Rattle.step_code.specs.Homing.{homing, taken, FineArguments}
 use Rattle.step_code.specs.Entry.{inner_entry, inner_return}
 use Rattle.step_code.specs.Bytes.{size_of_pieces, size_of_steps, bytes_of_pieces, bytes_of_steps, AllValid, AllStepsValid, AllHere}
 
@@ -72,13 +72,11 @@ module _ (f : FatFun) (parameters : List Parameter) (l : Layout) where
   -- ---- its homes
 
   -- in a frame of at most 504 words, and a data frame of at most 64 MB: homes are assigned, private values have the sorts that the
-  -- function says, and none that is set before an argument comes to its home holds that argument; among arguments of these kinds are
-  -- so many pointers
-  pub record HomesFit (kinds : List (Option IntKind)) (pointers : ℕ) : Type 0 where
+  -- function says, and the homes of parameters of these kinds hold no argument that is still to come
+  pub record HomesFit (kinds : List (Option IntKind)) : Type 0 where
     pub few_words : l.units ≤ 504
     pub few_bytes : f.frame ≤ 0x0400_0000
     pub assigned : Assigned l.units f.private f.steps l.plan l.first l.last
     pub sorts : (x : ℕ) → x < f.private → slice_index_or f.bounds x false ≡ l.plan.is_bounds x
     pub few_taken : taken parameters ≤ f.private
-    pub clear : (x : ℕ) → taken parameters ≤ x → x < f.private → Clear l.plan l.first (length kinds) pointers 0 0 (l.plan.home x)
-    pub arguments : FineArguments l.plan l.first (length kinds) pointers 0 f.private 0 0 parameters kinds
+    pub arguments : FineArguments l.plan l.first 0 f.private 0 0 parameters kinds

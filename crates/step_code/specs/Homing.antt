@@ -35,29 +35,31 @@ abbrev pub width_of : Bool → ℕ
 width_of true = 2
 width_of false = 1
 
-abbrev pub home_arguments : Plan → (home temp i b : ℕ) → List Parameter → List Piece
-home_arguments p home temp i b [] = []
-home_arguments p home temp i b (q ∷ qs) =
-    if q.private then home_argument p home i b q.pointer (home_arguments p (home + width_of q.pointer) temp (i + 1) (next_pair q.pointer b) qs)
-    else home_argument p temp i b q.pointer (home_arguments p home (temp + width_of q.pointer) (i + 1) (next_pair q.pointer b) qs)
+-- the last argument comes first: so a home in the register of a later argument, as one in BND2 or BND3, holds none that is still to come
+abbrev pub home_arguments : Plan → (home temp i b : ℕ) → List Parameter → List Piece → List Piece
+home_arguments p home temp i b [] rest = rest
+home_arguments p home temp i b (q ∷ qs) rest =
+    if q.private then home_arguments p (home + width_of q.pointer) temp (i + 1) (next_pair q.pointer b) qs (home_argument p home i b q.pointer rest)
+    else home_arguments p home (temp + width_of q.pointer) (i + 1) (next_pair q.pointer b) qs (home_argument p temp i b q.pointer rest)
 
 -- how many values the private ones of parameters have: the first
 abbrev pub taken : List Parameter → ℕ
 taken [] = 0
 taken (q ∷ qs) = if q.private then width_of q.pointer + taken qs else taken qs
 
--- private variables that are no parameters first, and then the arguments
+-- the arguments first, and then private variables that are no parameters
 abbrev pub homing : Plan → (private : ℕ) → List Parameter → List Piece
-homing p private parameters = Plain (MovImm 64 (reg 0) (pos 0)) ∷ unset_from p (taken parameters) (private - taken parameters) (home_arguments p 0 private 0 0 parameters)
+homing p private parameters =
+    home_arguments p 0 private 0 0 parameters (Plain (MovImm 64 (reg 0) (pos 0)) ∷ unset_from p (taken parameters) (private - taken parameters) [])
 
--- ---- what is asked of homes, for so many arguments and so many pointers among them
+-- ---- what is asked of homes of parameters
 
-module _ (p : Plan) (first : ℕ → ℕ) (count pairs : ℕ) where
-  -- a home that holds none of these
+module _ (p : Plan) (first : ℕ → ℕ) where
+  -- a home that holds no argument before the i-th, and no bounds before the b-th
   abbrev pub Clear : (i b : ℕ) → Home → Type 0
-  Clear i b (Reg r) = (j : ℕ) → i ≤ j → j < count → nat_eq (arg_reg j) r ≡ false
+  Clear i b (Reg r) = (j : ℕ) → j < i → nat_eq (arg_reg j) r ≡ false
   Clear i b (Slot k) = Unit {0}
-  Clear i b (Bnd x) = (t : ℕ) → b ≤ t → t < pairs → nat_eq t x ≡ false
+  Clear i b (Bnd x) = (t : ℕ) → t < b → nat_eq t x ≡ false
 
   abbrev pub FineNumber : (x i b : ℕ) → Type 0
   FineNumber x i b = (first x ≤ 0) × (p.is_bounds x ≡ false) × Clear i b (p.home x)
@@ -66,10 +68,10 @@ module _ (p : Plan) (first : ℕ → ℕ) (count pairs : ℕ) where
   FinePair x i b = (first x ≤ 0) × (p.is_bounds x ≡ true) × Clear i b (p.home x)
 
   abbrev pub FineArgument : (x i b : ℕ) → Bool → Option IntKind → Type 0
-  FineArgument x i b true None = FineNumber x (i + 1) b × FinePair (x + 1) (i + 1) (b + 1)
+  FineArgument x i b true None = FineNumber x i b × FinePair (x + 1) i b
   FineArgument x i b true (Some kind) = ⊥
   FineArgument x i b false None = ⊥
-  FineArgument x i b false (Some kind) = FineNumber x (i + 1) b
+  FineArgument x i b false (Some kind) = FineNumber x i b
 
   abbrev pub FineOne : Bool → (home temp i b : ℕ) → Bool → Option IntKind → Type 0
   FineOne true home temp i b pointer s = FineArgument home i b pointer s
