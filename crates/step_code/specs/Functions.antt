@@ -1,6 +1,6 @@
 -- The code of a whole C function: the inner entry, the homing of arguments, the steps, the end and the return, one behind the other; and
 -- what is asked of the homes of its values.
-use Rattle.std.specs.Prelude.{◌≡◌, ℕ, ◌+◌, ◌*◌, ◌^◌, ◌<◌, ◌≤◌, Bool, false, Option, List, [], ◌∷◌, ◌++◌, length, slice_index_or}
+use Rattle.std.specs.Prelude.{◌≡◌, ℕ, ◌+◌, ◌^◌, ◌<◌, ◌≤◌, false, Option, List, [], ◌∷◌, ◌++◌, length, slice_index_or}
 use Rattle.mx_base.specs.declared.numbers.IntKind.{IntKind}
 use Rattle.mx_base.specs.Memory.{Bytes, list_at}
 use Rattle.mx_base.specs.StopOfC.{AccessOfC}

@@ -1,0 +1,49 @@
+//! Laws of what code asks of steps. Each function does nothing, or names the laws that it rests on, and its contract is the law.
+
+ghost use Rattle.std.specs.Prelude.{◌≡◌, ◌≤◌, ℕ, Bool, Option, List};
+ghost use Rattle.fat_ir.specs.declared.program.FatFun.{FatFun};
+ghost use Rattle.fat_ir.specs.Spans.{Range};
+ghost use Rattle.fat_ir.specs.Step.{Located};
+ghost use Rattle.bounds_plan.specs.Code.{fat_function, most_pairs};
+ghost use Rattle.bounds_plan.specs.Compiled.{FitsFunction};
+ghost use Rattle.bounds_plan.specs.Functions.{FunctionOfC};
+ghost use Rattle.bounds_plan.specs.Laws.{JumpsTo, times};
+ghost use Rattle.bounds_plan.specs.Sorts.{AllNameRight, BoundsIn, NumberIn, pairs_of};
+ghost use Rattle.step_code.specs.Asked.{FineSteps};
+ghost use Rattle.step_code.specs.Homes.{first_in, last_in};
+ghost use Rattle.step_code.specs.Steps.{Plan};
+ghost use Rattle.asked_steps.specs.Alone.{AllLimited};
+ghost use Rattle.asked_steps.specs.Homes.{HomesServe};
+ghost use Rattle.asked_steps.specs.Trees.{FunctionWithin};
+
+use bounds_plan::{jumps_find_their_labels, steps_name_values_of_their_sort};
+
+/// The steps of a function whose tree is within the limits of code are within them: numbers are words of 64 bits, what is judged has a
+/// size, what is placed has a size and an offset below 2^31 and stands low, calls have at most six arguments, which their symbols take,
+/// a call that asks for bounds calls what gives a pointer, and a function that gives a pointer gives no number.
+pub fn compiled_functions_keep_to_limits()
+    ensures { (located : ℕ → Located) (pointer : Bool) (returns : ℕ → Bool) (takes : ℕ → List (ℕ × Option ℕ) → Bool) (f : FunctionOfC)
+        → FunctionWithin located pointer returns takes f → (name : ℕ) → AllLimited located pointer returns takes (fat_function name f).steps }
+{}
+
+/// Steps are what code asks of them, where they name values of their sorts, keep to the limits, and jump to labels that stand once
+/// among them, and where the homes of their values serve: homes by spans, words of the frame for values that are there at calls and
+/// services, and four words to spare.
+pub fn steps_within_limits_are_what_code_asks()
+    ensures { (f : FatFun) (units : ℕ) (p : Plan) (range : ℕ → Range) → HomesServe f units p range
+        → (returns : ℕ → Bool) (takes : ℕ → List (ℕ × Option ℕ) → Bool) → AllNameRight (NumberIn f) (BoundsIn f) f.steps
+        → AllLimited p.located p.pointer returns takes f.steps → JumpsTo (λ k. times k f.steps ≡ 1) f.steps
+        → FineSteps units p p.located f.steps (λ x. first_in (range x)) (λ x. last_in (range x)) returns takes 0 f.steps }
+{}
+
+/// So the steps of each function that fits are what code asks, where its tree is within the limits and its homes serve.
+pub fn compiled_functions_are_what_code_asks()
+    ensures { (count : ℕ → ℕ) (f : FunctionOfC) → FitsFunction count f → pairs_of f.body ≤ most_pairs
+        → (name units : ℕ) (p : Plan) (range : ℕ → Range) → HomesServe (fat_function name f) units p range
+        → (returns : ℕ → Bool) (takes : ℕ → List (ℕ × Option ℕ) → Bool) → FunctionWithin p.located p.pointer returns takes f
+        → FineSteps units p p.located (fat_function name f).steps (λ x. first_in (range x)) (λ x. last_in (range x)) returns takes
+        0 (fat_function name f).steps }
+{
+    steps_name_values_of_their_sort();
+    jumps_find_their_labels();
+}

@@ -1,0 +1,10 @@
+//! That the steps of C functions are what code asks of steps. What code asks beside homes is said of steps (`Alone`) and of the trees
+//! that they are compiled from (`Trees`); what homes owe is said in `Homes`.
+#![tactic(auto)]
+
+mod laws;
+
+pub use laws::{
+    compiled_functions_are_what_code_asks, compiled_functions_keep_to_limits,
+    steps_within_limits_are_what_code_asks,
+};
