@@ -10,3 +10,4 @@ pub mod Functions
 pub mod Written
 pub mod Whole
 pub mod Example
+pub mod Compiled

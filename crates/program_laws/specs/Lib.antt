@@ -1,4 +1,5 @@
 pub mod Borders
+pub mod Compiled
 pub mod Entering
 pub mod Examples
 pub mod Functions

@@ -26,10 +26,13 @@ ghost use Rattle.gate_laws.specs.Owed.{IsLinked, IsLoaded, Layers};
 ghost use Rattle.gate_laws.specs.Placed.{HasCode};
 ghost use Rattle.gate_laws.specs.Standing.{AtCall};
 ghost use Rattle.program_laws.specs.Borders.{setting_of};
+ghost use Rattle.program_laws.specs.Compiled.{HasCompiled};
 ghost use Rattle.program_laws.specs.Entering.{EntersFunction};
 ghost use Rattle.program_laws.specs.Examples.{linkage, image, places, program, inner_at, stubs_at, why_of};
 ghost use Rattle.program_laws.specs.Functions.{HasFunctions, entries_of, returns_in, takes_in};
 ghost use Rattle.program_laws.specs.Levels.{Do, DoDeeper, StopDeepest};
+
+use asked_steps::compiled_functions_are_what_code_asks;
 
 /// Calls at the border are what the code of a function asks of its calls: if all calls of C functions and of legacy functions do what they
 /// mean, where so many functions may still be entered, then so do the calls in the code, by the targets of its symbols, as long as the
@@ -91,6 +94,23 @@ pub fn images_end_as_their_sources_mean()
         → ProgramEnds k image places (moment_at_start k y input turns)
         (outcome_of (program_run_in_c program (outside_of_c k) main (world_at_start bytes input turns) log)) }
 {}
+
+/// The functions of a compiled program are as is owed, where the image has the code of each, its homes serve, and its tree keeps to the
+/// limits of code. So the run of the image ends as the program means in C.
+pub fn images_of_compiled_programs_end_as_they_mean()
+    ensures functions { (k : Linkage) (image : Bytes) (places : ℕ → Option AccessOfC) (inner stub : ℕ → ℕ) (takes_outside : ℕ → ℕ)
+        (program : ℕ → LinkedInC) (name : ℕ → ℕ) → HasCompiled k image places inner stub takes_outside program name
+        → HasFunctions k image places inner stub (all_compiled name program) }
+    ensures run { (k : Linkage) (image : Bytes) (places : ℕ → Option AccessOfC) (inner stub : ℕ → ℕ) (takes_outside : ℕ → ℕ)
+        (program : ℕ → LinkedInC) (name : ℕ → ℕ) → HasCompiled k image places inner stub takes_outside program name
+        → ((f : ℕ) → parameters_of program f ≡ length (k.own f).parameters) → IsLinked k image inner stub
+        → (main : ℕ) (bytes : Bytes) (y : Stored) → IsLoaded k image inner main bytes y
+        → (input : List ℕ) → InputFits input → (turns : ℕ) (log : Log)
+        → ProgramEnds k image places (moment_at_start k y input turns)
+        (outcome_of (program_run_in_c program (outside_of_c k) main (world_at_start bytes input turns) log)) }
+{
+    compiled_functions_are_what_code_asks();
+}
 
 /// A whole image of two C functions meets all that is asked, over any exact reader: `main` keeps 7 in an object and gives what
 /// `int f(int a, int *p) { return *p; }` gives for it. So its run ends as its steps do, over any memory that it is loaded in; and these

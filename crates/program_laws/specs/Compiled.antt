@@ -1,0 +1,62 @@
+-- What is owed of each function of a compiled program: of its bytes by the linker, of its homes by what assigns them, and of its tree that
+-- it keeps to the limits of code.
+use Rattle.std.specs.Prelude.{◌≡◌, ◌<◌, ◌≤◌, ℕ, true, Option, None, length}
+use Rattle.mx_base.specs.Memory.{Bytes}
+use Rattle.mx_base.specs.StopOfC.{AccessOfC}
+use Rattle.x86_forms.specs.Watch.{is_legacy}
+use Rattle.obj_file.specs.Machine.{IsReader}
+use Rattle.fat_ir.specs.Spans.{Range}
+use Rattle.bounds_plan.specs.Code.{fat_function, fat_parameters, most_pairs}
+use Rattle.bounds_plan.specs.Compiled.{FitsProgram, compiled}
+use Rattle.bounds_plan.specs.Functions.{Linked}
+use Rattle.bounds_plan.specs.Sorts.{pairs_of}
+use Rattle.step_code.specs.Functions.{Layout, IsWritten}
+use Rattle.step_code.specs.Homes.{first_in, last_in}
+use Rattle.step_code.specs.Homing.{Clear, FineArguments, taken}
+use Rattle.step_code.specs.Steps.{Plan}
+use Rattle.asked_steps.specs.Homes.{HomesServe}
+use Rattle.asked_steps.specs.Trees.{FunctionWithin}
+use Rattle.call_sigs.specs.Signatures.{Pointer, pointers}
+use Rattle.legacy_calls.specs.Legacy.{Linkage}
+use Rattle.program_laws.specs.Functions.{entries_of, returns_in, takes_in}
+
+-- homes by spans, in a frame of so many words, with labels at addresses
+pub record Assignment : Type 0 where
+  pub plan : Plan
+  pub units : ℕ
+  pub range : ℕ → Range
+  pub label_at : ℕ → ℕ
+
+abbrev pub layout_of : Assignment → Layout
+layout_of a = record {
+  plan = a.plan;
+  units = a.units;
+  first = λ x. first_in (a.range x);
+  last = λ x. last_in (a.range x);
+  label_at = a.label_at;
+}
+
+module _ (k : Linkage) (image : Bytes) (places : ℕ → Option AccessOfC) (inner stub : ℕ → ℕ) where
+  pub record IsCompiled (name : ℕ) (l : Linked) (f : ℕ) : Type 0 where
+    pub homes : Assignment
+    pub written : IsWritten (fat_function name l.fun) (fat_parameters l.fun.parameters) (layout_of homes) image places
+        (entries_of inner stub (compiled name l)) (inner f)
+    pub serve : HomesServe (fat_function name l.fun) homes.units homes.plan homes.range
+    pub few_words : homes.units ≤ 504
+    pub few_bytes : l.fun.frame ≤ 0x0400_0000
+    -- no home that is set before an argument comes to its home holds that argument
+    pub clear : (x : ℕ) → taken (fat_parameters l.fun.parameters) ≤ x → x < length l.fun.privates
+        → Clear homes.plan (λ v. first_in (homes.range v)) (length (k.own f).parameters) (pointers (k.own f).parameters) 0 0 (homes.plan.home x)
+    pub arguments : FineArguments homes.plan (λ v. first_in (homes.range v)) (length (k.own f).parameters) (pointers (k.own f).parameters)
+        0 (length l.fun.privates) 0 0 (fat_parameters l.fun.parameters) (k.own f).parameters
+    pub pointer : (k.own f).result ≡ Pointer → homes.plan.pointer ≡ true
+    pub located : (symbol : ℕ) → homes.plan.located symbol ≡ l.located symbol
+    pub within : FunctionWithin homes.plan.located homes.plan.pointer (returns_in k (compiled name l)) (takes_in k (compiled name l)) l.fun
+
+  pub record HasCompiled (takes_outside : ℕ → ℕ) (program : ℕ → Linked) (name : ℕ → ℕ) : Type 0 where
+    pub reader : IsReader k.reads
+    pub few : k.outers ≤ 65536
+    pub fits : FitsProgram takes_outside program
+    pub few_pairs : (f : ℕ) → pairs_of (program f).fun.body ≤ most_pairs
+    pub each : (f : ℕ) → f < k.outers → IsCompiled (name f) (program f) f
+    pub placed : (a : ℕ) → is_legacy a ≡ true → places a ≡ None
