@@ -46,7 +46,6 @@ module _ (asked : AreAsked) (k : Linkage) (image : Bytes) (places : ℕ → Opti
           assigned = homes_assigned (fat_function name l.fun) c.homes.units c.homes.plan c.homes.range c.serve.have c.serve.short c.serve.ends;
           sorts = λ x less. c.serve.sorts x (omega arith);
           few_taken = let few_of = few_taken (length l.fun.privates) (sorts_of l.fun) 0 l.fun.parameters fits.parameters (omega arith) in omega arith;
-          clear = c.clear;
           arguments = c.arguments;
         };
         pointer = c.pointer;

@@ -12,11 +12,11 @@ use Rattle.bounds_plan.specs.Functions.{Linked}
 use Rattle.bounds_plan.specs.Sorts.{pairs_of}
 use Rattle.step_code.specs.Functions.{Layout, IsWritten}
 use Rattle.step_code.specs.Homes.{first_in, last_in}
-use Rattle.step_code.specs.Homing.{Clear, FineArguments, taken}
+use Rattle.step_code.specs.Homing.{FineArguments}
 use Rattle.step_code.specs.Steps.{Plan}
 use Rattle.asked_steps.specs.Homes.{HomesServe}
 use Rattle.asked_steps.specs.Trees.{FunctionWithin}
-use Rattle.call_sigs.specs.Signatures.{Pointer, pointers}
+use Rattle.call_sigs.specs.Signatures.{Pointer}
 use Rattle.legacy_calls.specs.Legacy.{Linkage}
 use Rattle.program_laws.specs.Functions.{entries_of, returns_in, takes_in}
 
@@ -44,10 +44,8 @@ module _ (k : Linkage) (image : Bytes) (places : ℕ → Option AccessOfC) (inne
     pub serve : HomesServe (fat_function name l.fun) homes.units homes.plan homes.range
     pub few_words : homes.units ≤ 504
     pub few_bytes : l.fun.frame ≤ 0x0400_0000
-    -- no home that is set before an argument comes to its home holds that argument
-    pub clear : (x : ℕ) → taken (fat_parameters l.fun.parameters) ≤ x → x < length l.fun.privates
-        → Clear homes.plan (λ v. first_in (homes.range v)) (length (k.own f).parameters) (pointers (k.own f).parameters) 0 0 (homes.plan.home x)
-    pub arguments : FineArguments homes.plan (λ v. first_in (homes.range v)) (length (k.own f).parameters) (pointers (k.own f).parameters)
+    -- the homes of parameters hold no argument that is still to come
+    pub arguments : FineArguments homes.plan (λ v. first_in (homes.range v))
         0 (length l.fun.privates) 0 0 (fat_parameters l.fun.parameters) (k.own f).parameters
     pub pointer : (k.own f).result ≡ Pointer → homes.plan.pointer ≡ true
     pub located : (symbol : ℕ) → homes.plan.located symbol ≡ l.located symbol
