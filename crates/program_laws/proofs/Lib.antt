@@ -11,3 +11,4 @@ pub mod Written
 pub mod Whole
 pub mod Example
 pub mod Compiled
+pub mod CompiledExample

@@ -27,6 +27,7 @@ ghost use Rattle.gate_laws.specs.Placed.{HasCode};
 ghost use Rattle.gate_laws.specs.Standing.{AtCall};
 ghost use Rattle.program_laws.specs.Borders.{setting_of};
 ghost use Rattle.program_laws.specs.Compiled.{HasCompiled};
+ghost use Rattle.program_laws.specs.CompiledExample.{linkage_of_c, image_of_c, no_places, inner_of_c, stubs_of_c, program_of_c, names};
 ghost use Rattle.program_laws.specs.Entering.{EntersFunction};
 ghost use Rattle.program_laws.specs.Examples.{linkage, image, places, program, inner_at, stubs_at, why_of};
 ghost use Rattle.program_laws.specs.Functions.{HasFunctions, entries_of, returns_in, takes_in};
@@ -126,4 +127,16 @@ pub fn a_small_image_meets_what_is_asked()
         (program_run program (outside (linkage reads preserve)) 0 (world_at_start y.bytes input turns)) }
     ensures meaning { (reads : List ℕ → Reading) (preserve : Bool) (bytes : Bytes) (input : List ℕ)
         → why_of (program_run program (outside (linkage reads preserve)) 0 (world_at_start bytes input 4)) ≡ Some (Exit 7) }
+{}
+
+/// A whole image of the compiled function `int main(void) { int x = 7; return x; }` meets what is asked of compiled programs, over any
+/// exact reader, and in C the program exits with 7 where two turns are left, for a call and a return.
+pub fn a_compiled_image_meets_what_is_asked()
+    ensures compiled { (reads : List ℕ → Reading) → IsReader reads → (preserve : Bool)
+        → HasCompiled (linkage_of_c reads preserve) image_of_c no_places inner_of_c stubs_of_c (λ g. 0) program_of_c names }
+    ensures linked { (reads : List ℕ → Reading) → IsReader reads → (preserve : Bool)
+        → IsLinked (linkage_of_c reads preserve) image_of_c inner_of_c stubs_of_c }
+    ensures meaning { (reads : List ℕ → Reading) → IsReader reads → (preserve : Bool) (bytes : Bytes) (input : List ℕ) (log : Log)
+        → why_of (outcome_of (program_run_in_c program_of_c (outside_of_c (linkage_of_c reads preserve)) 0
+        (world_at_start bytes input 2) log)) ≡ Some (Exit 7) }
 {}
