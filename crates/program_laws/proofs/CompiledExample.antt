@@ -19,8 +19,7 @@ use Rattle.bounds_plan.specs.Code.{fat_function}
 use Rattle.bounds_plan.specs.Compiled.{FitsFunction, compiled, parameters_of, taken_by}
 use Rattle.bounds_plan.specs.Follows.{outcome_of}
 use Rattle.bounds_plan.specs.Functions.{program_run}
-use Rattle.step_code.specs.Homing.{Clear}
-use Rattle.step_code.specs.Homes.{first_in, Apart, HaveHomes, IsNumberHome, IsPairHome, width}
+use Rattle.step_code.specs.Homes.{Apart, HaveHomes, IsNumberHome, IsPairHome, width}
 use Rattle.step_code.specs.Functions.{IsWritten, past_function}
 use Rattle.step_code.specs.declared.homes.Home.{Home}
 use Rattle.step_code.specs.declared.homes.Home.TheVariants.{Slot}
@@ -194,7 +193,6 @@ module _ (reads : List ℕ → Reading) (reader : IsReader reads) (preserve : Bo
       serve = serves;
       few_words = omega arith;
       few_bytes = omega arith;
-      clear = λ x from less. a_word x (Clear homes_of_c.plan (λ v. first_in (range_of_value v)) 0 0 0 0) (λ at. tt) tt;
       arguments = tt;
       pointer = λ e. absurd (cc);
       located = λ symbol. refl;

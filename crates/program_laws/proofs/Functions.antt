@@ -1,5 +1,5 @@
 -- The code of a C function does its steps, one level deeper.
-use Rattle.call_sigs.specs.Signatures.{pointers, Pointer}
+use Rattle.call_sigs.specs.Signatures.{Pointer}
 use Rattle.step_code.specs.Homing.{homing, taken, FineArguments}
 use Rattle.mx_base.specs.StopOfC.{AccessOfC}
 use Rattle.gate_laws.specs.Moments.{Moment, Final}
@@ -14,7 +14,7 @@ use Rattle.program_laws.proofs.Sized.{Sizes, AreSizes, counts, enters, inner_ret
 use Rattle.program_laws.proofs.Homed.{Homed}
 use Rattle.program_laws.proofs.Homing.{homed as place_homes}
 use Rattle.std.specs.Prelude.{nat_lt, slice_index_or}
-use Rattle.std.proofs.Common.{◌≡◌, ℕ, zero, suc, ◌+◌, ◌-◌, ◌*◌, ◌^◌, ◌<◌, ◌≤◌, true, false, Option, List, length, refl, arith, ap, ◌∙◌, sym, subst}
+use Rattle.std.proofs.Common.{◌≡◌, ℕ, zero, suc, ◌+◌, ◌-◌, ◌*◌, ◌^◌, ◌<◌, ◌≤◌, true, false, Option, List, refl, arith, ap, ◌∙◌, sym, subst}
 use Rattle.std.proofs.lemmas.Bool.{cond_both}
 use Rattle.std.proofs.lemmas.Bool.Decides.{nat_tests}
 use Rattle.mx_base.specs.declared.numbers.IntKind.{IntKind}

@@ -12,7 +12,7 @@ use Rattle.code_laws.specs.Laid.{StandAll}
 use Rattle.step_code.specs.Homes.{IsFree, IsNumberHome, IsPairHome, Assigned}
 use Rattle.code_laws.proofs.Pieces.{with_reg_leaves, leaves_all, plain_goes, keep_slot}
 use Rattle.code_laws.proofs.Homes.{at_address, with_scratch, put_goes, put_bounds_goes, Scratched}
-use Rattle.code_laws.specs.Runs.{AtHome, IsKnown, IsSort, In, whole_of}
+use Rattle.code_laws.specs.Runs.{In, whole_of}
 use Rattle.code_laws.proofs.Inside.{in_on, put_in, put_pair_in}
 use Rattle.code_laws.proofs.Leading.{leads_then}
 use Rattle.step_code.specs.Homing.{Clear, FineArgument, FineArguments, FineOne, unset_home, unset_from, home_argument, next_pair, width_of, home_arguments, homing, taken}
@@ -23,7 +23,6 @@ use Rattle.std.proofs.lemmas.Bool.Decides.{nat_tests, eqb_tells}
 use Rattle.mx_base.specs.declared.limits.Bounds.{Bounds as BoundsPair}
 use Rattle.mx_base.specs.declared.numbers.IntKind.{IntKind}
 use Rattle.mx_base.specs.Bounds.{full_bounds}
-use Rattle.mx_base.specs.World.{World}
 use Rattle.x86_forms.specs.declared.instr.Base.TheVariants.{None as NoBase}
 use Rattle.x86_forms.specs.declared.instr.Instr.TheVariants.{MovImm, Bndmk}
 use Rattle.x86_forms.specs.Examples.{reg}

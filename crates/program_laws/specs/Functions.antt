@@ -9,7 +9,7 @@ use Rattle.obj_file.specs.Machine.{IsReader}
 use Rattle.fat_ir.specs.Functions.{Linked, Target, OfC, Outside}
 use Rattle.step_code.specs.Asked.{FineSteps}
 use Rattle.step_code.specs.Functions.{Layout, IsWritten, HomesFit}
-use Rattle.call_sigs.specs.Signatures.{Signature, Result, Nothing, Pointer, Of, pointers}
+use Rattle.call_sigs.specs.Signatures.{Signature, Result, Nothing, Pointer, Of}
 use Rattle.legacy_calls.specs.Legacy.{Linkage}
 
 -- ---- what symbols call
