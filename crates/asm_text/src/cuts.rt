@@ -23,6 +23,7 @@ fn bytes_before(text: &[u8], at: u8) -> usize
 #[tactic(auto, using(crate::proofs::CutLemmas::cut_first))]
 pub fn cut_at(text: &[u8], at: u8) -> Cut<'_>
     ensures parts { slice_split (spec.is at) text.now ≡ result.part.now ∷ spec.parts_left at (option_copied result.more) }
+    ensures within { length result.part.now ≤ length text.now }
     ensures shorter { spec.room_of (option_copied result.more) ≤ length text.now }
 {
     let (part, rest) = text.split_at(bytes_before(text, at));

@@ -66,3 +66,11 @@ impl<T: Drop> From<AllocFailed<T>> for AsmFault {
         AsmFault::OutOfMemory
     }
 }
+
+impl From<mx_base::OutOfMemory> for AsmFault {
+    ghost from_gives = { λ _ e. e ≡ OutOfMemory };
+
+    fn from(_error: mx_base::OutOfMemory) -> AsmFault {
+        AsmFault::OutOfMemory
+    }
+}

@@ -1,0 +1,12 @@
+pub mod Fields
+pub mod SoundOperands
+pub mod SoundLines
+pub mod NamedLemmas
+pub mod LabelLemmas
+pub mod StepLemmas
+pub mod SizeLemmas
+pub mod ChainLemmas
+pub mod PlainLemmas
+pub mod FormedLemmas
+pub mod UseLemmas
+pub mod BranchLemmas

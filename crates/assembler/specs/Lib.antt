@@ -1,0 +1,5 @@
+pub mod Sound
+pub mod Held
+pub mod Seen
+pub mod Good
+pub mod Told
