@@ -1,0 +1,11 @@
+pub mod Touching
+pub mod Living
+pub mod Walking
+pub mod Looping
+pub mod Lived
+pub mod Counting
+pub mod Placing
+pub mod Giving
+pub mod Noises
+pub mod Assigning
+pub mod Having
