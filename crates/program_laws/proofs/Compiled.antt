@@ -1,22 +1,28 @@
 -- The functions of a compiled program are as is owed, where homes serve and trees keep to the limits of code.
-use Rattle.std.proofs.Common.{◌≡◌, ℕ, ◌+◌, ◌≤◌, Bool, Option, None, Some, List, [], ◌∷◌, length, arith, subst}
+use Rattle.std.proofs.Common.{◌≡◌, ℕ, suc, ◌+◌, ◌<◌, ◌≤◌, Bool, true, false, Option, None, Some, List, [], ◌∷◌, ◌++◌, length, refl, arith, ap, ◌∙◌, sym, subst}
+use Rattle.std.specs.Prelude.{slice_index_or, nat_lt, if◌then◌else◌}
+use Rattle.std.proofs.lemmas.Bool.Decides.{nat_tests}
+use Rattle.std.proofs.lemmas.List.{length-append, append_assoc, get_or_append_left}
+use Rattle.std.proofs.Math.Seq.{get_or-append_seam}
+use Rattle.mx_base.specs.declared.numbers.IntKind.{IntKind}
 use Rattle.mx_base.specs.Memory.{Bytes}
 use Rattle.mx_base.specs.StopOfC.{AccessOfC}
-use Rattle.fat_ir.specs.Spans.{Range}
+use Rattle.fat_ir.specs.Spans.{Range, Holds}
 use Rattle.fat_ir.specs.Step.{Located}
-use Rattle.bounds_plan.specs.Code.{fat_function, fat_parameters, most_pairs}
+use Rattle.bounds_plan.specs.Code.{fat_function, fat_parameters, arrived, in_turn, most_pairs}
 use Rattle.bounds_plan.specs.Compiled.{FitsFunction, ParametersStand, all_compiled, compiled, parameters_of, sorts_of, taken_by}
 use Rattle.bounds_plan.specs.Functions.{FunctionOfC, Linked, Parameter, Private, Framed}
 use Rattle.bounds_plan.specs.Sorts.{pairs_of}
 use Rattle.step_code.specs.Asked.{FineSteps}
 use Rattle.step_code.specs.Homes.{first_in, last_in}
-use Rattle.step_code.specs.Homing.{taken}
+use Rattle.step_code.specs.Homing.{Clear, FineArguments, taken}
 use Rattle.step_code.specs.Steps.{Plan}
 use Rattle.step_code.proofs.Spanning.{homes_assigned}
 use Rattle.asked_steps.specs.Homes.{HomesServe}
 use Rattle.asked_steps.specs.Trees.{FunctionWithin}
+use Rattle.call_sigs.specs.Signatures.{pointers}
 use Rattle.legacy_calls.specs.Legacy.{Linkage}
-use Rattle.program_laws.specs.Compiled.{layout_of, IsCompiled, HasCompiled}
+use Rattle.program_laws.specs.Compiled.{layout_of, kinds_of, AreClear, IsCompiled, HasCompiled}
 use Rattle.program_laws.specs.Functions.{IsFunction, HasFunctions, returns_in, takes_in}
 
 -- what is known of the steps of all compiled functions
@@ -32,9 +38,88 @@ few_taken private sorts home (Private x None ∷ ps) h le = let at = h.0 in let 
 few_taken private sorts home (Framed offset (Some kind) ∷ ps) h le = few_taken private sorts home ps h le
 few_taken private sorts home (Framed offset None ∷ ps) h le = few_taken private sorts home ps h le
 
+-- ---- parameters
+
+-- the temporaries in which parameters arrive have their sorts in a list
+module _ (list : List Bool) where
+  abbrev ArrivedAt : List Parameter → ℕ → Type 0
+  ArrivedAt [] t = Unit {0}
+  ArrivedAt (Private x kind ∷ ps) t = ArrivedAt ps t
+  ArrivedAt (Framed offset (Some kind) ∷ ps) t = (slice_index_or list t false ≡ false) × ArrivedAt ps (t + 1)
+  ArrivedAt (Framed offset None ∷ ps) t = (slice_index_or list t false ≡ false) × (slice_index_or list (t + 1) false ≡ true) × ArrivedAt ps (t + 2)
+
+  read_at : (front back : List Bool) (b : Bool) (t : ℕ) → list ≡ front ++ b ∷ back → t ≡ length front → slice_index_or list t false ≡ b
+  read_at front back b t e at = ap (λ (xs : List Bool). slice_index_or xs t false) e ∙ ap (λ n. slice_index_or (front ++ b ∷ back) n false) at ∙ get_or-append_seam front b back false
+
+  grown : (front back : List Bool) (b : Bool) → list ≡ front ++ b ∷ back → list ≡ (front ++ b ∷ []) ++ back
+  grown front back b e = e ∙ sym (append_assoc front (b ∷ []) back)
+
+  longer : (front : List Bool) (b : Bool) (t : ℕ) → t ≡ length front → t + 1 ≡ length (front ++ b ∷ [])
+  longer front b t at = let e = length-append front (b ∷ []) in omega arith
+
+  arrived_at : (ps : List Parameter) (front back : List Bool) (t : ℕ) → list ≡ front ++ (arrived ps ++ back) → t ≡ length front → ArrivedAt ps t
+  arrived_at [] front back t e at = tt
+  arrived_at (Private x kind ∷ ps) front back t e at = arrived_at ps front back t e at
+  arrived_at (Framed offset (Some kind) ∷ ps) front back t e at =
+      (read_at front (arrived ps ++ back) false t e at, arrived_at ps (front ++ false ∷ []) back (t + 1) (grown front (arrived ps ++ back) false e) (longer front false t at))
+  arrived_at (Framed offset None ∷ ps) front back t e at =
+      let one = grown front (true ∷ (arrived ps ++ back)) false e in
+      let at_1 = longer front false t at in
+      let two = grown (front ++ false ∷ []) (arrived ps ++ back) true one in
+      let at_2 : t + 2 ≡ length ((front ++ false ∷ []) ++ true ∷ []) = let p = longer (front ++ false ∷ []) true (t + 1) at_1 in omega arith in
+      (read_at front (true ∷ (arrived ps ++ back)) false t e at, read_at (front ++ false ∷ []) (arrived ps ++ back) true (t + 1) one at_1, arrived_at ps ((front ++ false ∷ []) ++ true ∷ []) back (t + 2) two at_2)
+
+begins_at : (r : Range) → Holds r 0 → first_in r ≤ 0
+begins_at r h = let from = h.0 in let past = h.1 in let e : nat_lt r.from r.past ≡ true = grind (arith, nat_tests) in
+    subst (λ (b : Bool). (if b then r.from else 0xffff_ffff_ffff_ffff) ≤ 0) (sym e) from
+
+module _ (name : ℕ) (f : FunctionOfC) (units : ℕ) (p : Plan) (range : ℕ → Range) (serve : HomesServe (fat_function name f) units p range) where
+  abbrev private : ℕ
+  private = length f.privates
+
+  abbrev base : ℕ
+  base = private + length (arrived f.parameters)
+
+  abbrev list : List Bool
+  list = (fat_function name f).bounds
+
+  abbrev first : ℕ → ℕ
+  first x = first_in (range x)
+
+  -- a value that is there from the first step on, of a sort
+  begins : (b : Bool) (x : ℕ) → x < base → slice_index_or list x false ≡ b → (first x ≤ 0) × (p.is_bounds x ≡ b)
+  begins b x less sort = (begins_at (range x) ((serve.have.spans x).first less), sym (serve.sorts x (omega arith)) ∙ sort)
+
+  in_privates : (x : ℕ) → x < private → slice_index_or list x false ≡ sorts_of f x
+  in_privates x less = ap (λ (xs : List Bool). slice_index_or xs x false) (append_assoc f.privates (arrived f.parameters) (in_turn most_pairs)) ∙ get_or_append_left f.privates (arrived f.parameters ++ in_turn most_pairs) false x less
+
+  fine : (home temp i b : ℕ) (ps : List Parameter) → temp + length (arrived ps) ≤ base → ParametersStand private (sorts_of f) home ps → ArrivedAt list ps temp → AreClear p first home temp i b ps
+      → FineArguments p first home temp i b (fat_parameters ps) (kinds_of ps)
+  fine home temp i b [] le h t c = tt
+  fine home temp i b (Private x (Some kind) ∷ ps) le h t c =
+      let less : home < private = let e = h.0 in let l = h.1.0 in omega arith in
+      let at = begins false home (omega arith) (in_privates home less ∙ ap (sorts_of f) (sym h.0) ∙ h.1.1) in
+      ((at.0, at.1, c.0), fine (home + 1) temp (i + 1) b ps le h.2 t c.1)
+  fine home temp i b (Private x None ∷ ps) le h t c =
+      let less : home + 1 < private = let e = h.0 in let l = h.1.0 in omega arith in
+      let at = begins false home (omega arith) (in_privates home (omega arith) ∙ ap (sorts_of f) (sym h.0) ∙ h.1.1) in
+      let next = begins true (home + 1) (omega arith) (in_privates (home + 1) less ∙ ap (λ (v : ℕ). sorts_of f (v + 1)) (sym h.0) ∙ h.1.2) in
+      (((at.0, at.1, c.0.0), (next.0, next.1, c.0.1)), fine (home + 2) temp (i + 1) (b + 1) ps le h.2 t c.1)
+  fine home temp i b (Framed offset (Some kind) ∷ ps) le h t c =
+      let at = begins false temp (omega arith) t.0 in
+      ((at.0, at.1, c.0), fine home (temp + 1) (i + 1) b ps (omega arith) h t.1 c.1)
+  fine home temp i b (Framed offset None ∷ ps) le h t c =
+      let at = begins false temp (omega arith) t.0 in
+      let next = begins true (temp + 1) (omega arith) t.1 in
+      (((at.0, at.1, c.0.0), (next.0, next.1, c.0.1)), fine home (temp + 2) (i + 1) (b + 1) ps (omega arith) h t.2 c.1)
+
+  pub arguments_fine : ParametersStand private (sorts_of f) 0 f.parameters → AreClear p first 0 private 0 0 f.parameters
+      → FineArguments p first 0 private 0 0 (fat_parameters f.parameters) (kinds_of f.parameters)
+  arguments_fine h c = fine 0 private 0 0 f.parameters (omega arith) h (arrived_at list f.parameters f.privates (in_turn most_pairs) private (append_assoc f.privates (arrived f.parameters) (in_turn most_pairs)) refl) c
+
 module _ (asked : AreAsked) (k : Linkage) (image : Bytes) (places : ℕ → Option AccessOfC) (inner stub : ℕ → ℕ) where
-  function_is : (count : ℕ → ℕ) (name : ℕ) (l : Linked) (f : ℕ) → FitsFunction count l.fun → pairs_of l.fun.body ≤ most_pairs → IsCompiled k image places inner stub name l f → IsFunction k image places inner stub (compiled name l) f
-  function_is count name l f fits few c =
+  function_is : (count : ℕ → ℕ) (name : ℕ) (l : Linked) (f : ℕ) → FitsFunction count l.fun → pairs_of l.fun.body ≤ most_pairs → (k.own f).parameters ≡ kinds_of l.fun.parameters → IsCompiled k image places inner stub name l f → IsFunction k image places inner stub (compiled name l) f
+  function_is count name l f fits few signature c =
       let steps = asked count l.fun fits few name c.homes.units c.homes.plan c.homes.range c.serve (returns_in k (compiled name l)) (takes_in k (compiled name l)) c.within in
       let same : c.homes.plan.located ≡ l.located = λ i symbol. c.located symbol i in
       record {
@@ -46,17 +131,24 @@ module _ (asked : AreAsked) (k : Linkage) (image : Bytes) (places : ℕ → Opti
           assigned = homes_assigned (fat_function name l.fun) c.homes.units c.homes.plan c.homes.range c.serve.have c.serve.short c.serve.ends;
           sorts = λ x less. c.serve.sorts x (omega arith);
           few_taken = let few_of = few_taken (length l.fun.privates) (sorts_of l.fun) 0 l.fun.parameters fits.parameters (omega arith) in omega arith;
-          arguments = c.arguments;
+          arguments = at_signature (λ kinds. FineArguments c.homes.plan (λ v. first_in (c.homes.range v)) 0 (length l.fun.privates) 0 0 (fat_parameters l.fun.parameters) kinds)
+              (arguments_fine name l.fun c.homes.units c.homes.plan c.homes.range c.serve fits.parameters c.arguments);
         };
         pointer = c.pointer;
         steps = subst (λ (where_is : ℕ → Located). FineSteps c.homes.units c.homes.plan where_is (fat_function name l.fun).steps (λ x. first_in (c.homes.range x)) (λ x. last_in (c.homes.range x))
             (returns_in k (compiled name l)) (takes_in k (compiled name l)) 0 (fat_function name l.fun).steps) same steps;
       }
+    where
+      at_signature : (P : List (Option IntKind) → Type 0) → P (kinds_of l.fun.parameters) → P (k.own f).parameters
+      at_signature P h = subst P (sym signature) h
+
+  pub same_counts : (takes_outside : ℕ → ℕ) (program : ℕ → Linked) (name : ℕ → ℕ) → HasCompiled k image places inner stub takes_outside program name → (f : ℕ) → parameters_of program f ≡ length (k.own f).parameters
+  same_counts takes_outside program name has f = sym (as_many (program f).fun.parameters) ∙ ap (λ (kinds : List (Option IntKind)). length kinds) (sym (has.signatures f))
 
   pub has_functions : (takes_outside : ℕ → ℕ) (program : ℕ → Linked) (name : ℕ → ℕ) → HasCompiled k image places inner stub takes_outside program name → HasFunctions k image places inner stub (all_compiled name program)
   has_functions takes_outside program name has = record {
     reader = has.reader;
     few = has.few;
-    each = λ f few. function_is (λ symbol. taken_by (parameters_of program) takes_outside ((program f).targets symbol)) (name f) (program f) f (has.fits f) (has.few_pairs f) (has.each f few);
+    each = λ f few. function_is (λ symbol. taken_by (parameters_of program) takes_outside ((program f).targets symbol)) (name f) (program f) f (has.fits f) (has.few_pairs f) (has.signatures f) (has.each f few);
     placed = has.placed;
   }

@@ -186,6 +186,7 @@ module _ (reads : List ℕ → Reading) (reader : IsReader reads) (preserve : Bo
     reader = reader;
     few = omega arith;
     fits = λ f. fits_main (λ symbol. taken_by (parameters_of program_of_c) (λ g. 0) ((program_of_c f).targets symbol));
+    signatures = λ f. refl;
     few_pairs = λ f. omega arith;
     each = λ f few. record {
       homes = homes_of_c;

@@ -96,15 +96,15 @@ pub fn images_end_as_their_sources_mean()
         (outcome_of (program_run_in_c program (outside_of_c k) main (world_at_start bytes input turns) log)) }
 {}
 
-/// The functions of a compiled program are as is owed, where the image has the code of each, its homes serve, and its tree keeps to the
-/// limits of code. So the run of the image ends as the program means in C.
+/// The functions of a compiled program are as is owed, where the image has the code of each, its signature tells its parameters, its homes
+/// serve, and its tree keeps to the limits of code. So the run of the image ends as the program means in C.
 pub fn images_of_compiled_programs_end_as_they_mean()
     ensures functions { (k : Linkage) (image : Bytes) (places : ℕ → Option AccessOfC) (inner stub : ℕ → ℕ) (takes_outside : ℕ → ℕ)
         (program : ℕ → LinkedInC) (name : ℕ → ℕ) → HasCompiled k image places inner stub takes_outside program name
         → HasFunctions k image places inner stub (all_compiled name program) }
     ensures run { (k : Linkage) (image : Bytes) (places : ℕ → Option AccessOfC) (inner stub : ℕ → ℕ) (takes_outside : ℕ → ℕ)
         (program : ℕ → LinkedInC) (name : ℕ → ℕ) → HasCompiled k image places inner stub takes_outside program name
-        → ((f : ℕ) → parameters_of program f ≡ length (k.own f).parameters) → IsLinked k image inner stub
+        → IsLinked k image inner stub
         → (main : ℕ) (bytes : Bytes) (y : Stored) → IsLoaded k image inner main bytes y
         → (input : List ℕ) → InputFits input → (turns : ℕ) (log : Log)
         → ProgramEnds k image places (moment_at_start k y input turns)
