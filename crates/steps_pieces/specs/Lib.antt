@@ -1,0 +1,4 @@
+pub mod Wanted
+pub mod Operators
+pub mod Own
+pub mod Put
