@@ -15,12 +15,11 @@ use Rattle.bounds_plan.specs.Functions.{FunctionOfC, Linked, Parameter, Private,
 use Rattle.bounds_plan.specs.Sorts.{pairs_of}
 use Rattle.step_code.specs.Asked.{FineSteps}
 use Rattle.step_code.specs.Homes.{first_in, last_in}
-use Rattle.step_code.specs.Homing.{Clear, FineArguments, taken}
+use Rattle.step_code.specs.Homing.{FineArguments, taken}
 use Rattle.step_code.specs.Steps.{Plan}
 use Rattle.step_code.proofs.Spanning.{homes_assigned}
 use Rattle.asked_steps.specs.Homes.{HomesServe}
 use Rattle.asked_steps.specs.Trees.{FunctionWithin}
-use Rattle.call_sigs.specs.Signatures.{pointers}
 use Rattle.legacy_calls.specs.Legacy.{Linkage}
 use Rattle.program_laws.specs.Compiled.{layout_of, kinds_of, AreClear, IsCompiled, HasCompiled}
 use Rattle.program_laws.specs.Functions.{IsFunction, HasFunctions, returns_in, takes_in}
@@ -37,6 +36,11 @@ few_taken private sorts home (Private x (Some kind) ∷ ps) h le = let at = h.0 
 few_taken private sorts home (Private x None ∷ ps) h le = let at = h.0 in let low = h.1.0 in let rest = few_taken private sorts (home + 2) ps h.2 (omega arith) in omega arith
 few_taken private sorts home (Framed offset (Some kind) ∷ ps) h le = few_taken private sorts home ps h le
 few_taken private sorts home (Framed offset None ∷ ps) h le = few_taken private sorts home ps h le
+
+as_many : (ps : List Parameter) → length (kinds_of ps) ≡ length ps
+as_many [] = refl
+as_many (Private x kind ∷ ps) = ap (λ (n : ℕ). suc n) (as_many ps)
+as_many (Framed offset kind ∷ ps) = ap (λ (n : ℕ). suc n) (as_many ps)
 
 -- ---- parameters
 
