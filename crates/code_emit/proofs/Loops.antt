@@ -1,10 +1,11 @@
 -- What the loops that put bytes at the end of code keep.
 use Rattle.std.specs.Prelude.{Result, Ok, Err, OnOk}
-use Rattle.std.proofs.Common.{◌≡◌, ℕ, ◌+◌, ◌<◌, List, [], ◌∷◌, ◌++◌, length, drop, get_or, append_assoc, length-append, refl, ap, ◌∙◌, sym}
+use Rattle.std.proofs.Common.{◌≡◌, ℕ, suc, ◌+◌, ◌-◌, ◌<◌, arith, List, [], ◌∷◌, ◌++◌, length, drop, get_or, append_assoc, length-append, refl, ap, ◌∙◌, sym}
 use Rattle.std.proofs.lemmas.List.{at_drop_more}
 use Rattle.fat_ir.specs.declared.step.FatStep.{FatStep}
 use Rattle.step_code.specs.declared.pieces.Piece.{Piece}
 use Rattle.step_code.specs.Steps.{Plan, lower}
+use Rattle.step_code.specs.Homing.{unset_home, unset_from}
 use Rattle.step_code.specs.Bytes.{size_of_piece, size_of_pieces}
 use Rattle.code_emit.specs.Unlinked.{unlinked_piece, unlinked_pieces, unlinked_steps}
 use Rattle.code_emit.proofs.Sized.{blank_size}
@@ -42,4 +43,14 @@ next_step plan labels code new old steps rest i step here there same is =
     (λ j. is j ++ unlinked_steps plan labels (longer j) (there j))
     ∙ append_assoc code (unlinked_pieces labels (length code) ps) (unlinked_steps plan labels (length code + size_of_pieces ps) rest)
     ∙ ap (λ (l : List FatStep). code ++ unlinked_steps plan labels (length code) l) (sym here)
+    ∙ same
+
+pub next_unset : (plan : Plan) (out new start : List Piece) (x private : ℕ) → x < private → ((rest : List Piece) → new ++ rest ≡ out ++ unset_home (plan.is_bounds x) (plan.home x) rest)
+    → out ++ unset_from plan x (private - x) [] ≡ start → new ++ unset_from plan (x + 1) (private - (x + 1)) [] ≡ start
+next_unset plan out new start x private low is same =
+    let left : suc (private - (x + 1)) ≡ private - x = omega arith in
+    let one : x + 1 ≡ suc x = omega arith in
+    ap (λ (y : ℕ). new ++ unset_from plan y (private - (x + 1)) []) one
+    ∙ is (unset_from plan (suc x) (private - (x + 1)) [])
+    ∙ ap (λ (n : ℕ). out ++ unset_from plan x n []) left
     ∙ same

@@ -6,6 +6,7 @@ mod bytes;
 mod entry;
 mod function;
 mod homes;
+mod homing;
 mod numbers;
 mod operators;
 mod plan;
@@ -13,5 +14,6 @@ mod steps;
 
 pub use entry::{end, inner_entry, inner_return};
 pub use function::{note_labels, put_steps};
+pub use homing::{Parameter, put_homing};
 pub use plan::FunctionPlan;
 pub use steps::lower_step;
