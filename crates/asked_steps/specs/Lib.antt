@@ -1,3 +1,4 @@
+pub mod Assigned
 pub mod Alone
 pub mod Trees
 pub mod Homes

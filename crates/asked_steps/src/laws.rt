@@ -1,6 +1,6 @@
 //! Laws of what code asks of steps. Each function does nothing, or names the laws that it rests on, and its contract is the law.
 
-ghost use Rattle.std.specs.Prelude.{◌≡◌, ◌≤◌, ℕ, Bool, Option, List};
+ghost use Rattle.std.specs.Prelude.{◌≡◌, ◌+◌, ◌<◌, ◌≤◌, ℕ, Bool, Option, List, length};
 ghost use Rattle.fat_ir.specs.declared.program.FatFun.{FatFun};
 ghost use Rattle.fat_ir.specs.Spans.{Range};
 ghost use Rattle.fat_ir.specs.Step.{Located};
@@ -12,11 +12,15 @@ ghost use Rattle.bounds_plan.specs.Sorts.{AllNameRight, BoundsIn, NumberIn, pair
 ghost use Rattle.step_code.specs.Asked.{FineSteps};
 ghost use Rattle.step_code.specs.Homes.{first_in, last_in};
 ghost use Rattle.step_code.specs.Steps.{Plan};
+ghost use Rattle.reg_assign.specs.declared.homes.Homes.{Homes};
+ghost use Rattle.reg_assign.specs.Homes.{AreHomes};
 ghost use Rattle.asked_steps.specs.Alone.{AllLimited};
+ghost use Rattle.asked_steps.specs.Assigned.{HasSpare};
 ghost use Rattle.asked_steps.specs.Homes.{HomesServe};
 ghost use Rattle.asked_steps.specs.Trees.{FunctionWithin};
 
 use bounds_plan::{jumps_find_their_labels, steps_name_values_of_their_sort};
+use reg_assign::assigned_homes_are_had;
 
 /// The steps of a function whose tree is within the limits of code are within them: numbers are words of 64 bits, what is judged has a
 /// size, what is placed has a size and an offset below 2^31 and stands low, calls have at most six arguments, which their symbols take,
@@ -46,4 +50,12 @@ pub fn compiled_functions_are_what_code_asks()
 {
     steps_name_values_of_their_sort();
     jumps_find_their_labels();
+}
+
+/// Homes that are assigned serve, in a plan that has them and a frame with four words more, which are to spare.
+pub fn assigned_homes_serve()
+    ensures { (f : FatFun) (h : Homes) (p : Plan) → HasSpare f h p → (are : AreHomes f h) → 1 ≤ length f.steps
+        → length f.steps < 0xffff_ffff_ffff_ffff → HomesServe f (h.words + 4) p are.span }
+{
+    assigned_homes_are_had();
 }
