@@ -1,12 +1,15 @@
--- What `exec` reads, and what its run leaves.
-use Rattle.std.proofs.Common.{◌≡◌, ℕ, ◌<◌, ◌≤◌, Option, None, Some, Ok, Err, List, [], length, take, sym, ap, ◌∙◌, subst, arith}
-use Rattle.std.specs.Prelude.{Result}
-use Rattle.std.proofs.lemmas.List.{take_all, length-take}
+-- What the run of a machine at an image's start leaves.
+use Rattle.std.proofs.Common.{◌≡◌, ℕ, Option, None, Some, Ok, List, [], refl, sym, ap, ◌∙◌, subst}
 use Rattle.mx_base.specs.declared.stops.Stop.{Stop}
 use Rattle.mx_base.specs.declared.stops.Stop.TheVariants as stop
-use Rattle.mx_base.specs.Outside.{FileFacts, Untold, Absent, Holds, Adds, AddsFront}
+use Rattle.mx_base.specs.Outside.{Adds, AddsFront}
 use Rattle.obj_file.specs.declared.image.Image.{Image}
-use Rattle.obj_file.specs.Machine.{State}
+use Rattle.obj_file.specs.Machine.{Reading, IsReader, State}
+use Rattle.obj_file.specs.StoreLaw.{HaveBytes}
+use Rattle.obj_file.proofs.Readers.{same_run}
+use Rattle.mx_run.specs.Placing.{used_before}
+use Rattle.mx_run.specs.Reads.{reader}
+use Rattle.mx_run.proofs.ReaderLaws.{reader_reads}
 use Rattle.obj_file.specs.Runs as runs
 use Rattle.obj_file.specs.Loaded.{Tabled, image_run}
 use Rattle.mx_run.specs.declared.machine.Machine.{Machine}
@@ -14,59 +17,21 @@ use Rattle.mx_run.specs.declared.parts.Parts.{Parts}
 use Rattle.mx_run.specs.Backed.{Backed, ground, image_ground, in_bytes, over_frames}
 use Rattle.mx_run.specs.Events.{Around, IsNow, IsCut, Ends, EndsInBytes, out_of}
 use Rattle.mx_run.specs.Machines.{ground_of, machine_state, framed_ground_of, framed_state, framed_run, lacks_frames, Runs, RunsInBytes, IsAtStart}
-use Rattle.mpx_words.specs.declared.end.End.{End}
-use Rattle.mpx_words.specs.declared.end.End.TheVariants as end
 use Rattle.mpx_words.specs.declared.options.Settings.{Settings}
-use Rattle.mpx_words.specs.Sources.{IsFrontOf}
-use Rattle.mpx_words.specs.Exec.{config_of, file_limit, WhereTold, IsLarge, IsSpelling, SpellsNone, IsRefused, Loads, Reads, mode_of, due_run, Leaves, Comes, lack_of, TellsLack, RunsImage}
-
--- ---- the file
-
-whole_front : (held front : List ℕ) → front ≡ take 536870913 held → length front ≤ file_limit → front ≡ held
-whole_front held front e le =
-    let short : length held ≤ 536870913 = omega (arith, ap length e, length-take 536870913 held) in
-    e ∙ take_all 536870913 held short
-
-large_front : (held front : List ℕ) → front ≡ take 536870913 held → file_limit < length front → file_limit < length held
-large_front held front e lt = omega (arith, ap length e, length-take 536870913 held)
-
-told : (P : List ℕ → Type 0) (facts : FileFacts) (front : List ℕ) → IsFrontOf 536870913 facts front → P front → length front ≤ file_limit → WhereTold facts P
-told P Untold front f h le = tt
-told P Absent front f h le = absurd f
-told P (Holds held) front f h le = subst P (whole_front held front f le) h
-
-told_large : (facts : FileFacts) (front : List ℕ) → IsFrontOf 536870913 facts front → IsLarge front → WhereTold facts IsLarge
-told_large Untold front f h = tt
-told_large Absent front f h = absurd f
-told_large (Holds held) front f h = large_front held front f h
-
-refused : (facts : FileFacts) (front : List ℕ) (why : End) → IsFrontOf 536870913 facts front → Reads front (Err why) → IsRefused facts why
-refused facts front end.FileLarge f h = told_large facts front f h
-refused facts front (end.BadForm at) f h = (h.0, told SpellsNone facts front f h.1 h.1.0)
-refused facts front end.NoMemory f h = tt
-refused facts front (end.Exit code) f h = absurd h
-refused facts front (end.Bounds value lb ub) f h = absurd h
-refused facts front end.Missing f h = absurd h
-refused facts front end.Unbuilt f h = absurd h
-refused facts front end.WordsRefused f h = absurd h
-refused facts front end.ReadFault f h = absurd h
-refused facts front end.WriteFault f h = absurd h
-
--- what the front of a file gives, the file gives
-pub loaded : (facts : FileFacts) (front : List ℕ) (r : Result Image End) → IsFrontOf 536870913 facts front → Reads front r → Loads facts r
-loaded facts front (Ok v) f h = (h.0, told (IsSpelling v) facts front f h.1 h.1.0)
-loaded facts front (Err why) f h = refused facts front why f h
+use Rattle.mpx_words.specs.Running.{config_of, mode_of, run_by, framed_run_by, Leaves, Comes, lack_of, TellsLack, RunsImage}
+use Rattle.mpx_words.proofs.Puts.{adds_nothing}
+use Rattle.mpx_words.proofs.Readers.{framed_same}
 
 -- ---- the run
 
 -- the run of a machine that stands at an image's start is the run of the image
-same_run : (v : Image) (s : Settings) (m : Machine) (input : List ℕ) → IsAtStart v (config_of s) m → runs.run_of (ground_of m) s.turns (machine_state m input []) ≡ due_run s v input
+run_of_machine : (v : Image) (s : Settings) (m : Machine) (input : List ℕ) → IsAtStart v (config_of s) m → runs.run_of (ground_of m) s.turns (machine_state m input []) ≡ image_run reader v (mode_of s) s.turns input
 unfolding image_run
-same_run v s m input start = λ i. runs.run_of (image_ground (start.cfg i) (start.outers i) (start.bare i)) s.turns (start.state input i)
+run_of_machine v s m input start = λ i. runs.run_of (image_ground (start.cfg i) (start.outers i) (start.bare i)) s.turns (start.state input i)
 
-same_framed : (v : Image) (s : Settings) (m : Machine) (input : List ℕ) → IsAtStart v (config_of s) m → runs.run_of (framed_ground_of m) s.turns (framed_state m input []) ≡ framed_run v (mode_of s) s.frames s.turns input
+framed_of : (v : Image) (s : Settings) (m : Machine) (input : List ℕ) → IsAtStart v (config_of s) m → runs.run_of (framed_ground_of m) s.turns (framed_state m input []) ≡ framed_run v (mode_of s) s.frames s.turns input
 unfolding framed_run
-same_framed v s m input start = λ i. runs.run_of (ground (start.cfg i) (start.outers i) (start.bare i)) s.turns (over_frames (start.state input i) (start.touched i) (start.frames i))
+framed_of v s m input start = λ i. runs.run_of (ground (start.cfg i) (start.outers i) (start.bare i)) s.turns (over_frames (start.state input i) (start.touched i) (start.frames i))
 
 leaves : (held : Option (List ℕ)) (new : Around) (t : State Backed) → IsNow held [] new t → Leaves (in_bytes t) held new.held new.left
 leaves held new t n = record {
@@ -106,14 +71,25 @@ tells e held new (stop.NoFrames in_use capacity) h = ap lacks_frames h.1
 tells e held new stop.ReadFault h = tt
 tells e held new stop.WriteFault h = tt
 
--- the run of a machine at an image's start, as a run of the image
-pub ran : (v : Image) (s : Settings) (m : Machine) → IsAtStart v (config_of s) m
-    → (parts : Parts) (why : Stop) (held held' left left' : Option (List ℕ))
-    → (m.kept ≡ None → RunsInBytes m s.turns left held (record { parts = parts; left = left'; held = held' }) why) → (m.kept ≡ None → Runs m s.turns left held (record { parts = parts; left = left'; held = held' }) why)
-    → RunsImage s v left (Ok why) held held' left'
-ran v s m start parts why held held' left left' ends framed = λ input e.
-    let new : Around = record { parts = parts; left = left'; held = held' } in
-    let over : Ends (framed_run v (mode_of s) s.frames s.turns input) held [] new why = subst (λ (r : runs.End Backed). Ends r held [] new why) (same_framed v s m input start) (framed start.kept input [] e) in (
-      subst (λ (lack : Option (ℕ × ℕ)). TellsLack lack why) (sym (ap (λ used. lack_of used s.frames (framed_run v (mode_of s) s.frames s.turns input)) start.fits)) (tells _ held new why over),
-      comes (due_run s v input) held new why (subst (λ (r : runs.End Tabled). EndsInBytes r held [] new why) (same_run v s m input start) (ends start.kept input [] e)),
-    )
+-- the run of a machine at an image's start, as a run of the image by any exact reader
+module _ (reads : List ℕ → Reading) (exact : IsReader reads) (v : Image) (bytes : HaveBytes v.segments) (s : Settings) where
+  run_here : (input : List ℕ) → image_run reader v (mode_of s) s.turns input ≡ run_by reads s v input
+  run_here input = same_run reader reads reader_reads exact v bytes (mode_of s) s.turns input
+
+  pub ran : (m : Machine) → IsAtStart v (config_of s) m
+      → (parts : Parts) (why : Stop) (held held' left left' : Option (List ℕ))
+      → (m.kept ≡ None → RunsInBytes m s.turns left held (record { parts = parts; left = left'; held = held' }) why) → (m.kept ≡ None → Runs m s.turns left held (record { parts = parts; left = left'; held = held' }) why)
+      → RunsImage reads s v left (Ok why) held held' left'
+  ran m start parts why held held' left left' ends framed = λ input e.
+      let new : Around = record { parts = parts; left = left'; held = held' } in
+      let over : Ends (framed_run_by reads s v input) held [] new why = subst (λ (r : runs.End Backed). Ends r held [] new why) (framed_of v s m input start ∙ framed_same reads exact s v bytes input) (framed start.kept input [] e) in (
+        subst (λ (lack : Option (ℕ × ℕ)). TellsLack lack why) (sym (ap (λ used. lack_of used s.frames (framed_run_by reads s v input)) start.fits)) (tells _ held new why over),
+        comes (run_by reads s v input) held new why (subst (λ (r : runs.End Tabled). EndsInBytes r held [] new why) (run_of_machine v s m input start ∙ run_here input) (ends start.kept input [] e)),
+      )
+
+-- too few frames for the segments
+pub lacking : (reads : List ℕ → Reading) (s : Settings) (v : Image) (in_use capacity : ℕ) (held left : Option (List ℕ)) → used_before s.frames [] v.segments ≡ Some in_use → capacity ≡ s.frames → RunsImage reads s v left (Ok (stop.NoFrames in_use capacity)) held held left
+lacking reads s v in_use capacity held left used e = λ input is. (
+  ap (λ o. lack_of o s.frames (framed_run_by reads s v input)) used ∙ ap (λ (n : ℕ). Some (in_use, n)) (sym e),
+  record { front = []; rest = out_of (run_by reads s v input); splits = refl; adds = adds_nothing held },
+)

@@ -1,70 +1,112 @@
--- What is due for a command: the bytes on standard output, and how it ends.
-use Rattle.std.specs.Prelude.{◌≡◌, ℕ, Option, None, Some, List, []}
+-- What is due of a command, by the files that there are and the input that is told.
+use Rattle.std.specs.Prelude.{◌≡◌, ℕ, Option, None, Some, Result, Ok, Err, List, []}
 use Rattle.c_reader.specs.EarlyForm.{IsEarly}
-use Rattle.c_reader.specs.EarlyMeaning.{EarlyRun, EarlyEnd, Returns, Leaves, early_run}
+use Rattle.c_reader.specs.EarlyMeaning.{EarlyEnd, Returns, Leaves, early_run}
 use Rattle.c_reader.specs.declared.early.Act.{Act}
-use Rattle.mx_base.specs.Outside.{FileFacts, Untold, Absent, Holds, Adds, AddsFront, HasRisen}
+use Rattle.fault_text.specs.Explain as explain
+use Rattle.mx_base.specs.declared.stops.Stop.{Stop}
+use Rattle.mx_gen.specs.Program.{program_of}
+use Rattle.mx_run.specs.Events.{out_of}
+use Rattle.obj_file.specs.declared.image.Image.{Image}
+use Rattle.obj_file.specs.Image.{image_spelling}
+use Rattle.obj_file.specs.ImageReading.{image_of}
+use Rattle.obj_file.specs.Machine.{Reading}
+use Rattle.obj_file.specs.Object.{object_spelling}
 use Rattle.mpx_words.specs.declared.end.End.{End}
-use Rattle.mpx_words.specs.declared.end.End.TheVariants.{Exit, Bounds, Missing, Unbuilt, WordsRefused, ReadFault, WriteFault, NoMemory}
-use Rattle.mpx_words.specs.Words.{Command, Run}
+use Rattle.mpx_words.specs.declared.end.End.TheVariants.{Exit, Bounds, Missing, Unbuilt}
+use Rattle.mpx_words.specs.declared.options.Settings.{Settings}
+use Rattle.mpx_words.specs.Commands.{Command, Run, Exec, Dis, Gen, Migrate}
+use Rattle.mpx_words.specs.Ends.{status_of, line_of}
+use Rattle.mpx_words.specs.Files.{Content, formed, by_form}
+use Rattle.mpx_words.specs.Listing.{object_codes, image_codes, IsListing}
+use Rattle.mpx_words.specs.Running.{run_by, lack_by, stop_of, rest_of}
+use Rattle.mpx_words.specs.Stops.{stop_status_of}
 
-pub record Due : Type 0 where
+-- what is put on standard output, and what is told then of the input that is left
+pub record Flow : Type 0 where
   pub out : List ℕ
-  pub ends : End
+  pub left : Option (List ℕ)
 
--- nothing is put
-abbrev pub refused_due : End → Due
-refused_due end = record { out = []; ends = end }
+-- a file with its bytes
+pub record Written : Type 0 where
+  pub name : List ℕ
+  pub bytes : List ℕ
+
+-- what is due: what flows, where that is known; the line on standard error, if there is one; the status; the file that is written, if
+-- there is one; and, where the machine has too few frames, how many are in use and how many there are
+pub record Due : Type 0 where
+  pub flow : Option Flow
+  pub line : Option (List ℕ)
+  pub status : ℕ
+  pub written : Option Written
+  pub lack : Option (ℕ × ℕ)
+
+-- ---- the kinds of it
+
+-- this output, and the line of how it ended
+abbrev pub reported : List ℕ → Option (List ℕ) → List ℕ → End → Due
+reported file left out end = record { flow = Some (record { out = out; left = left }); line = Some (line_of file end); status = status_of end; written = None; lack = None }
+
+-- a file is refused
+abbrev pub refused : List ℕ → Option (List ℕ) → End → Due
+refused file left end = reported file left [] end
+
+-- text on standard output, and nothing else
+abbrev pub printed : Option (List ℕ) → List ℕ → Due
+printed left text = record { flow = Some (record { out = text; left = left }); line = None; status = 0; written = None; lack = None }
+
+-- a file is written, and nothing else is done
+abbrev pub wrote : Option (List ℕ) → List ℕ → List ℕ → Due
+wrote left name bytes = record { flow = Some (record { out = []; left = left }); line = None; status = 0; written = Some (record { name = name; bytes = bytes }); lack = None }
+
+-- ---- a program of the early form
 
 abbrev pub end_of : EarlyEnd → End
 end_of (Returns code) = Exit code
 end_of (Leaves value lb ub) = Bounds value lb ub
 
--- what a program of the early form puts, and how it ends
-abbrev pub run_due : EarlyRun → Due
-run_due run = record { out = run.out; ends = end_of run.ends }
+-- what a text puts, and how it ends: as the run of the program that it spells, or it is not built
+pub data IsRunOfText (bytes out : List ℕ) (end : End) : Type 0 where
+  IsProgram : (size : ℕ) (acts : List Act) (code : ℕ) → IsEarly bytes size acts code → out ≡ (early_run size acts code).out → end ≡ end_of (early_run size acts code).ends → IsRunOfText bytes out end
+  IsNoProgram : ((size : ℕ) (acts : List Act) (code : ℕ) → IsEarly bytes size acts code → ⊥) → out ≡ [] → end ≡ Unbuilt → IsRunOfText bytes out end
 
--- what is due for a text: the run of the program that it spells, or that it is not built
-pub data IsDueForText (bytes : List ℕ) (due : Due) : Type 0 where
-  IsProgram : (size : ℕ) (acts : List Act) (code : ℕ) → IsEarly bytes size acts code → due ≡ run_due (early_run size acts code) → IsDueForText bytes due
-  IsNoProgram : ((size : ℕ) (acts : List Act) (code : ℕ) → IsEarly bytes size acts code → ⊥) → due ≡ refused_due Unbuilt → IsDueForText bytes due
+abbrev pub IsRunOf : Content → List ℕ → End → Type 0
+IsRunOf None out end = (out ≡ []) × (end ≡ Missing)
+IsRunOf (Some bytes) out end = IsRunOfText bytes out end
 
--- what is due for a file by what is told of it; for an untold file nothing is known to be due
-abbrev pub IsDueForFile : FileFacts → Due → Type 0
-IsDueForFile Untold due = ⊥
-IsDueForFile Absent due = due ≡ refused_due Missing
-IsDueForFile (Holds bytes) due = IsDueForText bytes due
+-- ---- an image
 
-abbrev pub IsDue : Option Command → (List ℕ → FileFacts) → Due → Type 0
-IsDue None files due = due ≡ refused_due WordsRefused
-IsDue (Some (Run file)) files due = IsDueForFile (files file) due
+-- the output of its run, the input left, and the line of its stop
+abbrev pub due_of_run : (List ℕ → Reading) → Settings → Image → List ℕ → Due
+due_of_run reads s v input =
+    let end = run_by reads s v input in
+    record {
+      flow = Some (record { out = out_of end; left = Some (rest_of end) });
+      line = Some (explain.line_of (stop_of end) v);
+      status = stop_status_of (stop_of end);
+      written = None;
+      lack = lack_by reads s v input;
+    }
 
--- the file that the last line names
-abbrev pub file_of : Option Command → List ℕ
-file_of None = []
-file_of (Some (Run file)) = file
+-- over an input that is not told: the line of some stop
+abbrev pub due_unseen : Image → Stop → Option (ℕ × ℕ) → Due
+due_unseen v why lack = record { flow = None; line = Some (explain.line_of why v); status = stop_status_of why; written = None; lack = lack }
 
--- the work of a command against what is due: a fault or want of memory leaves a front of the bytes due, and nothing else ends it otherwise than is due
-abbrev pub Works : Due → End → Option (List ℕ) → Option (List ℕ) → Type 0
-Works due ReadFault old new = AddsFront old new due.out
-Works due WriteFault old new = AddsFront old new due.out
-Works due NoMemory old new = AddsFront old new due.out
-Works due end old new = (end ≡ due.ends) × Adds old new due.out
+abbrev pub IsDueOfRun : (List ℕ → Reading) → Settings → Image → Option (List ℕ) → Due → Type 0
+IsDueOfRun reads s v (Some input) due = due ≡ due_of_run reads s v input
+IsDueOfRun reads s v None due = (why : Stop) × (lack : Option (ℕ × ℕ)) × (due ≡ due_unseen v why lack)
 
--- the counts of read faults of the files and of faults of standard output, before and after the work
-abbrev pub FaultsOf : End → ℕ → ℕ → ℕ → ℕ → Type 0
-FaultsOf ReadFault reads reads' outs outs' = HasRisen reads reads' × (outs' ≡ outs)
-FaultsOf WriteFault reads reads' outs outs' = (reads' ≡ reads) × HasRisen outs outs'
-FaultsOf end reads reads' outs outs' = (reads' ≡ reads) × (outs' ≡ outs)
+-- ---- a command
 
--- the work on a text reads no file, and is no refusal of words
-abbrev pub TextFaults : End → ℕ → ℕ → Type 0
-TextFaults ReadFault outs outs' = ⊥
-TextFaults WordsRefused outs outs' = ⊥
-TextFaults WriteFault outs outs' = HasRisen outs outs'
-TextFaults end outs outs' = outs' ≡ outs
+-- what is due of what a file is, or that it is refused
+abbrev pub IsDueOf : {X : Type 0} → List ℕ → Option (List ℕ) → (X → Due → Type 0) → Result X End → Due → Type 0
+IsDueOf file left IsDueOfIt (Ok x) due = IsDueOfIt x due
+IsDueOf file left IsDueOfIt (Err end) due = due ≡ refused file left end
 
--- the last line is put on standard error, or standard error fails after a front of it, which is status 4
-pub data Reports (line : List ℕ) (due : ℕ) (status : ℕ) (old new : Option (List ℕ)) (faults faults' : ℕ) : Type 0 where
-  Put : status ≡ due → Adds old new line → faults' ≡ faults → Reports line due status old new faults faults'
-  Failed : status ≡ 4 → AddsFront old new line → HasRisen faults faults' → Reports line due status old new faults faults'
+-- what is due of a command, by a reader of instructions, the files that there are, and what is told of the input
+abbrev pub IsDue : (List ℕ → Reading) → Command → (List ℕ → Content) → Option (List ℕ) → Due → Type 0
+IsDue reads (Run file) files left due = (out : List ℕ) × (end : End) × IsRunOf (files file) out end × (due ≡ reported file left out end)
+IsDue reads (Exec s file) files left due = IsDueOf file left (λ v. IsDueOfRun reads s v left) (formed image_of (files file)) due
+IsDue reads (Dis file) files left due = IsDueOf file left (λ parts due. (text : List ℕ) × IsListing parts text × (due ≡ printed left text)) (formed (by_form object_codes image_codes) (files file)) due
+IsDue reads (Gen n) files left due = due ≡ printed left (program_of n)
+IsDue reads (Migrate name file) files left due = IsDueOf file left (λ spelling due. due ≡ wrote left name spelling) (formed (by_form object_spelling image_spelling) (files file)) due

@@ -1,8 +1,9 @@
--- How a command ends: the status, and the line on standard error.
+-- How a command ends that runs no image: the status, and the line on standard error.
 use Rattle.std.specs.Prelude.{ℕ, Bool, true, List, ◌++◌, false, codes}
-use Rattle.std.specs.Fmt.{decimal, digits}
+use Rattle.std.specs.Fmt.{decimal}
 use Rattle.std.specs.declared.io.ErrorKind.{ErrorKind}
 use Rattle.std.specs.declared.io.ErrorKind.TheVariants.{OutOfMemory}
+use Rattle.fault_text.specs.Explain.{hex}
 use Rattle.mpx_words.specs.declared.end.End.{End}
 use Rattle.mpx_words.specs.declared.end.End.TheVariants.{Exit, Bounds, Missing, Unbuilt, FileLarge, BadForm, WordsRefused, ReadFault, WriteFault, NoMemory}
 
@@ -28,10 +29,6 @@ status_of ReadFault = 3
 status_of WriteFault = 4
 status_of NoMemory = 5
 status_of (Bounds value lb ub) = 10
-
--- a number in lower-case hexadecimal digits without leading zeros
-abbrev pub hex : ℕ → List ℕ
-hex n = digits 16 false n
 
 -- the line without its line feed; `file` is the name as it was given
 abbrev pub text_of : List ℕ → End → List ℕ

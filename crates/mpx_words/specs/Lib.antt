@@ -1,8 +1,14 @@
+pub mod Answers
+pub mod Commands
 pub mod Due
+pub mod Early
 pub mod Ends
-pub mod Exec
+pub mod Files
+pub mod Listing
 pub mod Options
+pub mod Outside
+pub mod Running
 pub mod Sinks
 pub mod Sources
-pub mod StopLines
+pub mod Stops
 pub mod Words

@@ -1,48 +1,48 @@
 //! The command `exec`: the image in a file is run.
-ghost use Rattle.std.specs.Prelude.{◌≡◌, ◌≤◌, ℕ, List, length};
-ghost use Rattle.mx_base.specs.Outside.{FileFacts};
+ghost use Rattle.std.specs.Prelude.{◌≡◌, ◌≤◌, ℕ, List, length, IfOk};
 ghost use Rattle.obj_file.specs.Image.{IsImage};
-ghost use Rattle.mpx_words.specs.Exec.{Loads, Reads, LoadCounts, RunsImage, RunCounts, ExecDone};
+ghost use Rattle.obj_file.specs.ImageReading.{image_of};
+ghost use Rattle.obj_file.specs.Machine.{Reading, IsReader};
+ghost use Rattle.obj_file.specs.StoreLaw.{HaveBytes};
+ghost use Rattle.mpx_words.specs.Answers.{Answers};
+ghost use Rattle.mpx_words.specs.Commands.{Exec};
+ghost use Rattle.mpx_words.specs.Files.{Reads, Loads, LoadCounts};
+ghost use Rattle.mpx_words.specs.Outside.{shelf, stream, outside};
+ghost use Rattle.mpx_words.specs.Running.{RunsImage, RunCounts};
 
 use crate::end::End;
+use crate::load::{load_bytes, refusal_of_form};
 use crate::options::Settings;
 use crate::report::{report, report_line};
-use crate::source_file::{SourceFault, read_front};
-use crate::stop_line::{make_stop_line, stop_status};
+use crate::stop::stop_status;
+use fault_text::explain;
 use mx_base::{Files, OutOfMemory, Sink, Source, Stop};
 use mx_run::{Config, Machine, MakeFault};
-use obj_file::{FormFault, Image, read_image};
+use obj_file::{Image, read_image};
 use std::alloc::Global;
-
-/// One byte more than a file may have.
-const ENOUGH: usize = 536_870_913;
 
 /// The image that the bytes spell.
 fn image_in(alloc: Global, bytes: &[u8]) -> Result<Image, End>
-    ensures { Reads bytes.now result }
+    ensures reads { Reads image_of bytes.now result }
+    ensures image { IfOk result (λ v. IsImage v × HaveBytes v.segments) }
 {
-    if bytes.len() >= ENOUGH {
-        return Err(End::FileLarge);
-    }
     match read_image(alloc, bytes) {
         Ok(image) => Ok(image),
-        Err(FormFault::BadForm { .. }) => Err(End::BadForm { at: 0 }),
-        Err(FormFault::OutOfMemory) => Err(End::NoMemory),
+        Err(fault) => Err(refusal_of_form(fault)),
     }
 }
 
 /// The image in a file.
 fn load_image<F: Files>(alloc: Global, files: &mut F, name: &str) -> Result<Image, End>
-    ensures loads { Loads (F.contents files.old name.now) result }
+    ensures loads { Loads image_of (F.contents files.old name.now) result }
+    ensures image { IfOk result (λ v. IsImage v × HaveBytes v.segments) }
     ensures contents { (n : List ℕ) → F.contents files.new n ≡ F.contents files.old n }
     ensures counts { LoadCounts result (F.read_faults files.old) (F.read_faults files.new) }
     ensures write_faults { F.write_faults files.new ≡ F.write_faults files.old }
 {
-    match read_front(alloc, files, name, ENOUGH) {
-        Err(SourceFault::Failed) => Err(End::ReadFault),
-        Err(SourceFault::OutOfMemory) => Err(End::NoMemory),
-        Ok(None) => Err(End::Missing),
-        Ok(Some(bytes)) => image_in(alloc, bytes.as_slice()),
+    match load_bytes(alloc, files, name) {
+        Err(end) => Err(end),
+        Ok(bytes) => image_in(alloc, bytes.as_slice()),
     }
 }
 
@@ -55,8 +55,9 @@ fn run_image<I: Source, O: Sink>(
     out: &mut O,
 ) -> Result<Stop, OutOfMemory>
     requires image { IsImage image.now }
+    requires bytes { HaveBytes image.now.segments }
     requires few { settings.frames ≤ 524288 }
-    ensures runs { RunsImage settings image.now (I.left input.old) result (O.held out.old) (O.held out.new) (I.left input.new) }
+    ensures runs { (reads : List ℕ → Reading) → IsReader reads → RunsImage reads settings image.now (I.left input.old) result (O.held out.old) (O.held out.new) (I.left input.new) }
     ensures counts { RunCounts result (I.faults input.old) (I.faults input.new) (O.faults out.old) (O.faults out.new) }
 {
     let config = Config {
@@ -83,15 +84,15 @@ pub fn run_exec<F: Files, I: Source, O: Sink, E: Sink>(
 ) -> u8
     requires short { length name.now ≤ 255 }
     requires few { settings.frames ≤ 524288 }
-    ensures does { ExecDone settings name.now (F.contents files.old name.now) (I.left input.old) (O.held out.old) (O.held out.new) (I.left input.new) (F.read_faults files.old) (F.read_faults files.new) (I.faults input.old) (I.faults input.new) (O.faults out.old) (O.faults out.new) result (E.held err.old) (E.held err.new) (E.faults err.old) (E.faults err.new) }
-    ensures contents { (n : List ℕ) → F.contents files.new n ≡ F.contents files.old n }
-    ensures write_faults { F.write_faults files.new ≡ F.write_faults files.old }
+    ensures { (reads : List ℕ → Reading) → IsReader reads → Answers reads (Exec settings name.now)
+        (outside (shelf (F.contents files.old) (F.read_faults files.old) (F.write_faults files.old)) (stream (I.left input.old) (I.faults input.old)) (stream (O.held out.old) (O.faults out.old)) (stream (E.held err.old) (E.faults err.old)))
+        (outside (shelf (F.contents files.new) (F.read_faults files.new) (F.write_faults files.new)) (stream (I.left input.new) (I.faults input.new)) (stream (O.held out.new) (O.faults out.new)) (stream (E.held err.new) (E.faults err.new))) result }
 {
     match load_image(alloc, files, name) {
         Err(end) => report(err, name, end),
         Ok(image) => match run_image(alloc, &image, settings, input, out) {
             Err(OutOfMemory) => report(err, name, End::NoMemory),
-            Ok(stop) => report_line(err, &make_stop_line(&image, &stop), stop_status(&stop)),
+            Ok(stop) => report_line(err, explain(&stop, &image).as_slice(), stop_status(&stop)),
         },
     }
 }

@@ -1,13 +1,22 @@
 //! The commands of `mpxc` over the outside: what words mean, the work of each command, and the line of how it ended.
 #![tactic(auto)]
 
+mod command;
+mod dis;
+mod early;
 pub mod end;
 mod exec;
+mod generate;
+mod laws;
 mod line;
+mod load;
+mod migrate;
 mod options;
 pub mod report;
 pub mod run;
 mod sink;
 mod source_file;
-mod stop_line;
+mod stop;
 mod word;
+
+pub use laws::words_mean_one_command;

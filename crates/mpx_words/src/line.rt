@@ -2,7 +2,8 @@
 ghost use Rattle.std.specs.Prelude.{◌≡◌, ◌+◌, ◌<◌, ◌≤◌, ◌++◌, [], false, length, drop, codes};
 ghost use Rattle.std.specs.Fmt.{decimal, digits, digit_glyph};
 ghost use Rattle.arrayvec.specs.ArrayVec.{array_vec_len};
-ghost use Rattle.mpx_words.specs.Ends.{hex, line_of};
+ghost use Rattle.fault_text.specs.Explain.{hex};
+ghost use Rattle.mpx_words.specs.Ends.{line_of};
 
 use crate::end::End;
 use arrayvec::ArrayVec;
@@ -50,7 +51,7 @@ pub fn make_line(file: &str, end: &End) -> Line
 }
 
 /// What was left, and by what.
-pub fn push_bounds(line: &mut Line, value: u64, lb: u64, ub: u64)
+fn push_bounds(line: &mut Line, value: u64, lb: u64, ub: u64)
     requires { array_vec_len line.old ≡ 0 }
     ensures items { line.new.items ≡ line.old.items ++ (codes "bounds: 0x" ++ hex value ++ codes " outside [0x" ++ hex lb ++ codes ", 0x" ++ hex ub ++ codes "]") }
     ensures len { array_vec_len line.new ≤ 230 }
@@ -65,7 +66,7 @@ pub fn push_bounds(line: &mut Line, value: u64, lb: u64, ub: u64)
 }
 
 /// Text.
-pub fn push(line: &mut Line, text: &[u8])
+fn push(line: &mut Line, text: &[u8])
     requires { array_vec_len line.old + length text.now ≤ 640 }
     ensures items { line.new.items ≡ line.old.items ++ text.now }
     ensures len { array_vec_len line.new ≡ array_vec_len line.old + length text.now }
@@ -77,7 +78,7 @@ pub fn push(line: &mut Line, text: &[u8])
 }
 
 /// A number in decimal digits.
-pub fn push_decimal(line: &mut Line, n: u64)
+fn push_decimal(line: &mut Line, n: u64)
     requires { array_vec_len line.old + 40 ≤ 640 }
     ensures items { line.new.items ≡ line.old.items ++ decimal n }
     ensures len { array_vec_len line.new ≤ array_vec_len line.old + 40 }
@@ -87,7 +88,7 @@ pub fn push_decimal(line: &mut Line, n: u64)
 }
 
 /// A number in lower-case hexadecimal digits without leading zeros.
-pub fn push_hex(line: &mut Line, n: u64)
+fn push_hex(line: &mut Line, n: u64)
     requires { array_vec_len line.old + 64 ≤ 640 }
     ensures items { line.new.items ≡ line.old.items ++ hex n }
     ensures len { array_vec_len line.new ≤ array_vec_len line.old + 64 }

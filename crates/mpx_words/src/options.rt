@@ -39,7 +39,7 @@ pub enum Seen {
 }
 
 /// A number in decimal digits, with a plus before them or not, below 2^64.
-fn number(word: &str) -> Option<u64>
+pub fn number(word: &str) -> Option<u64>
     ensures { result ≡ number_of word.now }
 {
     word.parse::<u64>().ok()

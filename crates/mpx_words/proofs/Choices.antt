@@ -1,0 +1,147 @@
+-- Files that there may be, and what is due of a refused one.
+use Rattle.std.proofs.Common.{◌≡◌, ℕ, ◌<◌, ◌≤◌, Bool, true, false, cond, nat_lt, Option, None, Some, Ok, Err, List, [], length, refl, sym, ap, ◌∙◌, subst, arith}
+use Rattle.std.specs.Prelude.{Result}
+use Rattle.std.specs.Str.{bytes_eq}
+use Rattle.std.proofs.lemmas.Bool.Decides.{nat_tests}
+use Rattle.std.proofs.lemmas.Slice.Eq.{bytes_eq-Decides}
+use Rattle.mx_base.specs.Outside.{FileFacts, Untold, Absent, Holds, Adds}
+use Rattle.obj_file.specs.Machine.{Reading}
+use Rattle.mpx_words.specs.declared.end.End.{End}
+use Rattle.mpx_words.specs.declared.end.End.TheVariants as end
+use Rattle.mpx_words.specs.Answers.{Whole, FileUnread, LacksMemory, Answers, Serves, Untouched, IsDone, IsPlain, KeepsFiles, Reports}
+use Rattle.mpx_words.specs.Commands.{Command}
+use Rattle.mpx_words.specs.Due.{Due, IsDue, refused}
+use Rattle.mpx_words.specs.Ends.{line_of, status_of}
+use Rattle.mpx_words.specs.Files.{Content, MayBe, file_limit, or_bad, formed, IsRefused, LoadCounts}
+use Rattle.mpx_words.specs.Outside.{Stream, Outside, stream}
+use Rattle.mpx_words.proofs.Puts.{adds_nothing}
+
+-- ---- files
+
+abbrev pub plainly : FileFacts → Content
+plainly Untold = None
+plainly Absent = None
+plainly (Holds bytes) = Some bytes
+
+pub may_plainly : (facts : FileFacts) → MayBe facts (plainly facts)
+may_plainly Untold = tt
+may_plainly Absent = refl
+may_plainly (Holds bytes) = refl
+
+-- the files that are told, one of them with this content
+abbrev pub with_file : (List ℕ → FileFacts) → List ℕ → Content → List ℕ → Content
+with_file told file content n = cond (bytes_eq n file) content (plainly (told n))
+
+pub may_with : (told : List ℕ → FileFacts) (file : List ℕ) (content : Content) → MayBe (told file) content → (n : List ℕ) → MayBe (told n) (with_file told file content n)
+may_with told file content h n = by (bytes_eq n file) refl
+  where
+    by : (b : Bool) → bytes_eq n file ≡ b → MayBe (told n) (cond b content (plainly (told n)))
+    by true e = subst (λ (k : List ℕ). MayBe (told k) content) (sym ((bytes_eq-Decides n file).0 e)) h
+    by false e = may_plainly (told n)
+
+pub with_same : (told : List ℕ → FileFacts) (file : List ℕ) (content : Content) → with_file told file content file ≡ content
+with_same told file content = ap (λ (b : Bool). cond b content (plainly (told file))) ((bytes_eq-Decides file file).1 refl)
+
+-- ---- forms
+
+few : (n : ℕ) → n ≤ file_limit → nat_lt file_limit n ≡ false
+few n h = grind (arith, nat_tests)
+
+many : (n : ℕ) → file_limit < n → nat_lt file_limit n ≡ true
+many n h = grind (arith, nat_tests)
+
+pub formed_few : {X : Type 0} (form : List ℕ → Result X ℕ) (bytes : List ℕ) → length bytes ≤ file_limit → formed form (Some bytes) ≡ or_bad (form bytes)
+formed_few {X} form bytes le = ap (λ (b : Bool). cond b (Err end.FileLarge) (or_bad (form bytes))) (few (length bytes) le)
+
+pub formed_many : {X : Type 0} (form : List ℕ → Result X ℕ) (bytes : List ℕ) → file_limit < length bytes → formed form (Some bytes) ≡ Err end.FileLarge
+formed_many {X} form bytes lt = ap (λ (b : Bool). cond b (Err end.FileLarge) (or_bad (form bytes))) (many (length bytes) lt)
+
+pub formed_ok : {X : Type 0} (form : List ℕ → Result X ℕ) (bytes : List ℕ) (x : X) → length bytes ≤ file_limit → form bytes ≡ Ok x → formed form (Some bytes) ≡ Ok x
+formed_ok form bytes x le e = formed_few form bytes le ∙ ap or_bad e
+
+formed_bad : {X : Type 0} (form : List ℕ → Result X ℕ) (bytes : List ℕ) (at : ℕ) → length bytes ≤ file_limit → form bytes ≡ Err at → formed form (Some bytes) ≡ Err (end.BadForm at)
+formed_bad form bytes at le e = formed_few form bytes le ∙ ap or_bad e
+
+-- ---- what stays
+
+-- nothing was done but to read files and to report
+pub record IsSame (before after : Outside) : Type 0 where
+  pub files : KeepsFiles before after
+  pub writes : after.files.writes ≡ before.files.writes
+  pub input : after.input ≡ before.input
+  pub out : after.out ≡ before.out
+
+pub kept : (a b : Stream) → b ≡ a → Adds a.told b.told []
+kept a b e = subst (λ (s : Stream). Adds a.told s.told []) (sym e) (adds_nothing a.told)
+
+pub untouched : (before after : Outside) → IsSame before after → Untouched before after
+untouched before after h = record { out = kept before.out after.out h.out; input = ap (λ (s : Stream). s.told) h.input; files = h.files }
+
+pub stream_same : (a b : Option (List ℕ)) (n m : ℕ) → b ≡ a → m ≡ n → stream b m ≡ stream a n
+stream_same a b n m e h = λ i. stream (e i) (h i)
+
+pub plain_one : IsPlain 1
+plain_one = record { not_refused = λ e. omega (arith, e); not_unread = λ e. omega (arith, e); not_unwritten = λ e. omega (arith, e) }
+
+-- ---- a refused file
+
+module _ {X : Type 0} (form : List ℕ → Result X ℕ) (reads : List ℕ → Reading) (c : Command) (file : List ℕ) (before after : Outside) (status : ℕ)
+    (is_due : (files : List ℕ → Content) (why : End) → formed form (files file) ≡ Err why → IsDue reads c files before.input.told (refused file before.input.told why)) where
+  serves : (content : Content) (why : End) → MayBe (before.files.told file) content → formed form content ≡ Err why → (Claim : Due → Type 0) → Claim (refused file before.input.told why) → Serves reads c before Claim
+  serves content why may e Claim h = record {
+    files = with_file before.files.told file content;
+    may = may_with before.files.told file content may;
+    due = refused file before.input.told why;
+    is = is_due (with_file before.files.told file content) why (ap (formed form) (with_same before.files.told file content) ∙ e);
+    claim = h;
+  }
+
+  refuses : (why : End) (content : Content) → MayBe (before.files.told file) content → formed form content ≡ Err why → IsPlain (status_of why) → IsSame before after → after.files.reads ≡ before.files.reads
+      → Reports (line_of file why) (status_of why) status before.err after.err → Answers reads c before after status
+  refuses why content may e plain same counts reports = record {
+    end = Whole (Some (line_of file why)) (status_of why);
+    works = serves content why may e (λ (due : Due). IsDone due (Some (line_of file why)) (status_of why) before after) (record {
+      line_due = refl;
+      status_due = refl;
+      plain = plain;
+      enough = refl;
+      flows = (kept before.out after.out same.out, ap (λ (s : Stream). s.told) same.input);
+      writes = same.files;
+    });
+    counts = record { reads = counts; writes = same.writes; input = ap (λ (s : Stream). s.faults) same.input; out = ap (λ (s : Stream). s.faults) same.out };
+    reports = reports;
+  }
+
+  -- the answer for it
+  pub refused_answers : (why : End) → IsRefused form (before.files.told file) why → LoadCounts {X = X} (Err why) before.files.reads after.files.reads → IsSame before after
+      → Reports (line_of file why) (status_of why) status before.err after.err → Answers reads c before after status
+  refused_answers end.Missing may counts same reports = refuses end.Missing None may refl plain_one same counts reports
+  refused_answers end.FileLarge h counts same reports = refuses end.FileLarge (Some h.0) h.1 (formed_many form h.0 h.2) plain_one same counts reports
+  refused_answers (end.BadForm at) h counts same reports = refuses (end.BadForm at) (Some h.0) h.1.may (formed_bad form h.0 at h.1.few h.2) plain_one same counts reports
+  refused_answers end.ReadFault h counts same reports = record {
+    end = FileUnread;
+    works = untouched before after same;
+    counts = record { reads = counts; writes = same.writes; input = ap (λ (s : Stream). s.faults) same.input; out = ap (λ (s : Stream). s.faults) same.out };
+    reports = reports;
+  }
+  refused_answers end.NoMemory h counts same reports = record {
+    end = LacksMemory;
+    works = untouched before after same;
+    counts = record { reads = counts; writes = same.writes; input = ap (λ (s : Stream). s.faults) same.input; out = ap (λ (s : Stream). s.faults) same.out };
+    reports = reports;
+  }
+  refused_answers (end.Exit code) h counts same reports = absurd h
+  refused_answers (end.Bounds value lb ub) h counts same reports = absurd h
+  refused_answers end.Unbuilt h counts same reports = absurd h
+  refused_answers end.WordsRefused h counts same reports = absurd h
+  refused_answers end.WriteFault h counts same reports = absurd h
+
+-- want of memory, before anything was done
+pub memory_answers : (reads : List ℕ → Reading) (c : Command) (file : List ℕ) (before after : Outside) (status : ℕ) → IsSame before after → after.files.reads ≡ before.files.reads
+    → Reports (line_of file end.NoMemory) 5 status before.err after.err → Answers reads c before after status
+memory_answers reads c file before after status same counts reports = record {
+  end = LacksMemory;
+  works = untouched before after same;
+  counts = record { reads = counts; writes = same.writes; input = ap (λ (s : Stream). s.faults) same.input; out = ap (λ (s : Stream). s.faults) same.out };
+  reports = reports;
+}

@@ -1,0 +1,124 @@
+-- Texts on standard output, and files that are written.
+use Rattle.std.proofs.Common.{◌≡◌, ◌∙◌, ℕ, Option, None, Some, Ok, Err, List, refl, sym, ap, subst, arith}
+use Rattle.std.specs.Prelude.{Result}
+use Rattle.mx_base.specs.Outside.{Untold, HoldsWhereTold, HasRisen}
+use Rattle.obj_file.specs.Machine.{Reading}
+use Rattle.mpx_words.specs.declared.end.End.TheVariants.{WriteFault}
+use Rattle.mpx_words.specs.Answers.{Whole, OutputUnwritten, FileUnwritten, Answers, Serves, IsDone, IsCut, IsPlain, IsUnwritten, KeepsFiles, KeepsOthers, Reports}
+use Rattle.mx_gen.specs.Program.{program_of}
+use Rattle.mpx_words.specs.Commands.{Command, Gen, Dis, Migrate}
+use Rattle.std.specs.declared.vec.Vec.{Vec}
+use Rattle.std.specs.Global.{Global}
+use Rattle.mpx_words.specs.declared.end.End.{End}
+use Rattle.obj_file.specs.Image.{image_spelling}
+use Rattle.obj_file.specs.Object.{object_spelling}
+use Rattle.mpx_words.specs.Listing.{object_codes, image_codes, IsListing}
+use Rattle.mpx_words.specs.Due.{Due, IsDue, IsDueOf, refused, printed, wrote}
+use Rattle.mpx_words.specs.Ends.{line_of}
+use Rattle.mpx_words.specs.Files.{Content, MayHold, formed, by_form, Yields, IsText}
+use Rattle.mpx_words.specs.Outside.{Stream, Outside}
+use Rattle.mpx_words.specs.Sinks.{Prints, All, Part}
+use Rattle.mpx_words.proofs.Choices.{plainly, may_plainly, with_file, may_with, with_same, formed_ok, kept}
+
+plain_zero : IsPlain 0
+plain_zero = record { not_refused = λ e. omega (arith, e); not_unread = λ e. omega (arith, e); not_unwritten = λ e. omega (arith, e) }
+
+-- a text that is due was printed
+module _ (reads : List ℕ → Reading) (c : Command) (before after : Outside) (status : ℕ) (text : List ℕ)
+    (serves : (Claim : Due → Type 0) → Claim (printed before.input.told text) → Serves reads c before Claim)
+    (files : KeepsFiles before after) (counts : after.files.reads ≡ before.files.reads) (writes : after.files.writes ≡ before.files.writes) (input : after.input ≡ before.input) where
+  pub printed_answers : Prints text status before.out after.out before.err after.err → Answers reads c before after status
+  printed_answers (All is adds faults same) = record {
+    end = Whole None 0;
+    works = serves (λ (due : Due). IsDone due None 0 before after) (record {
+      line_due = refl;
+      status_due = refl;
+      plain = plain_zero;
+      enough = refl;
+      flows = (adds, ap (λ (s : Stream). s.told) input);
+      writes = files;
+    });
+    counts = record { reads = counts; writes = writes; input = ap (λ (s : Stream). s.faults) input; out = faults };
+    reports = (is, kept before.err after.err same, ap (λ (s : Stream). s.faults) same);
+  }
+  printed_answers (Part adds risen reports) = record {
+    end = OutputUnwritten;
+    works = serves (λ (due : Due). IsCut due before after) (record { flows = adds; files = files });
+    counts = record { reads = counts; writes = writes; input = ap (λ (s : Stream). s.faults) input; out = risen };
+    reports = reports;
+  }
+
+-- a claim on what is due of a file by its form
+module _ {X : Type 0} (form : List ℕ → Result X ℕ) (reads : List ℕ → Reading) (c : Command) (file : List ℕ) (before : Outside) (due : Due) (bytes : List ℕ) (x : X)
+    (holds : MayHold (before.files.told file) bytes) (is : form bytes ≡ Ok x)
+    (is_due : (files : List ℕ → Content) → formed form (files file) ≡ Ok x → IsDue reads c files before.input.told due) where
+  pub serves_form : (Claim : Due → Type 0) → Claim due → Serves reads c before Claim
+  serves_form Claim h = record {
+    files = with_file before.files.told file (Some bytes);
+    may = may_with before.files.told file (Some bytes) holds.may;
+    due = due;
+    is = is_due (with_file before.files.told file (Some bytes)) (ap (formed form) (with_same before.files.told file (Some bytes)) ∙ formed_ok form bytes x holds.few is);
+    claim = h;
+  }
+
+-- a file that is due was written, or not
+module _ (reads : List ℕ → Reading) (c : Command) (before after : Outside) (status : ℕ) (name bytes : List ℕ)
+    (serves : (Claim : Due → Type 0) → Claim (wrote before.input.told name bytes) → Serves reads c before Claim)
+    (others : KeepsOthers name before after) (counts : after.files.reads ≡ before.files.reads) (input : after.input ≡ before.input) (out : after.out ≡ before.out) where
+  pub wrote_answers : status ≡ 0 → after.err ≡ before.err → HoldsWhereTold (after.files.told name) bytes → after.files.writes ≡ before.files.writes → Answers reads c before after status
+  wrote_answers is same holds writes = record {
+    end = Whole None 0;
+    works = serves (λ (due : Due). IsDone due None 0 before after) (record {
+      line_due = refl;
+      status_due = refl;
+      plain = plain_zero;
+      enough = refl;
+      flows = (kept before.out after.out out, ap (λ (s : Stream). s.told) input);
+      writes = (holds, others);
+    });
+    counts = record { reads = counts; writes = writes; input = ap (λ (s : Stream). s.faults) input; out = ap (λ (s : Stream). s.faults) out };
+    reports = (is, kept before.err after.err same, ap (λ (s : Stream). s.faults) same);
+  }
+
+  pub unwritten_answers : (file : List ℕ) → after.files.told name ≡ Untold → HasRisen before.files.writes after.files.writes → Reports (line_of file WriteFault) 4 status before.err after.err → Answers reads c before after status
+  unwritten_answers file lost writes reports = record {
+    end = FileUnwritten;
+    works = serves (λ (due : Due). IsUnwritten due before after) (record {
+      written = record { name = name; bytes = bytes };
+      is = refl;
+      flows = (kept before.out after.out out, ap (λ (s : Stream). s.told) input);
+      lost = lost;
+      others = others;
+    });
+    counts = record { reads = counts; writes = writes; input = ap (λ (s : Stream). s.faults) input; out = ap (λ (s : Stream). s.faults) out };
+    reports = reports;
+  }
+
+-- ---- the commands
+
+-- the same text was printed
+pub as_text : {a b : List ℕ} {status : ℕ} {out out' err err' : Stream} → a ≡ b → Prints a status out out' err err' → Prints b status out out' err err'
+as_text {status = status} {out = out} {out' = out'} {err = err} {err' = err'} e h = subst (λ (t : List ℕ). Prints t status out out' err err') e h
+
+pub gen_serves : (reads : List ℕ → Reading) (n : ℕ) (before : Outside) (Claim : Due → Type 0) → Claim (printed before.input.told (program_of n)) → Serves reads (Gen n) before Claim
+gen_serves reads n before Claim h = record {
+  files = λ k. plainly (before.files.told k);
+  may = λ k. may_plainly (before.files.told k);
+  due = printed before.input.told (program_of n);
+  is = refl;
+  claim = h;
+}
+
+pub dis_refused : (reads : List ℕ → Reading) (file : List ℕ) (left : Option (List ℕ)) (files : List ℕ → Content) (why : End) → formed (by_form object_codes image_codes) (files file) ≡ Err why → IsDue reads (Dis file) files left (refused file left why)
+dis_refused reads file left files why e = subst (λ r. IsDueOf file left (λ parts due. (text : List ℕ) × IsListing parts text × (due ≡ printed left text)) r (refused file left why)) (sym e) refl
+
+pub dis_serves : (reads : List ℕ → Reading) (file : List ℕ) (before : Outside) (v : Vec ℕ Global) → Yields (by_form object_codes image_codes) IsListing (before.files.told file) (Ok v) → (Claim : Due → Type 0) → Claim (printed before.input.told v.items) → Serves reads (Dis file) before Claim
+dis_serves reads file before v y = serves_form (by_form object_codes image_codes) reads (Dis file) file before (printed before.input.told v.items) y.0 y.2 y.1 y.3
+    (λ files e. subst (λ r. IsDueOf file before.input.told (λ parts due. (text : List ℕ) × IsListing parts text × (due ≡ printed before.input.told text)) r (printed before.input.told v.items)) (sym e) (v.items, y.4, refl))
+
+pub migrate_refused : (reads : List ℕ → Reading) (name file : List ℕ) (left : Option (List ℕ)) (files : List ℕ → Content) (why : End) → formed (by_form object_spelling image_spelling) (files file) ≡ Err why → IsDue reads (Migrate name file) files left (refused file left why)
+migrate_refused reads name file left files why e = subst (λ r. IsDueOf file left (λ spelling due. due ≡ wrote left name spelling) r (refused file left why)) (sym e) refl
+
+pub migrate_serves : (reads : List ℕ → Reading) (name file : List ℕ) (before : Outside) (v : Vec ℕ Global) → Yields (by_form object_spelling image_spelling) IsText (before.files.told file) (Ok v) → (Claim : Due → Type 0) → Claim (wrote before.input.told name v.items) → Serves reads (Migrate name file) before Claim
+migrate_serves reads name file before v y = serves_form (by_form object_spelling image_spelling) reads (Migrate name file) file before (wrote before.input.told name v.items) y.0 y.2 y.1 y.3
+    (λ files e. subst (λ r. IsDueOf file before.input.told (λ spelling due. due ≡ wrote before.input.told name spelling) r (wrote before.input.told name v.items)) (sym e) (ap (wrote before.input.told name) y.4))

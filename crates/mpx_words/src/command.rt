@@ -1,0 +1,108 @@
+//! Commands, and the words that mean them.
+ghost use Rattle.std.specs.Prelude.{◌≡◌, ◌≤◌, ℕ, List, map, string_bytes, length, MatchOption, ◌∷◌, [], codes};
+ghost use Rattle.mpx_words.specs.Commands.{Run, Dis, Gen, Migrate, Means, MeanNothing, Fits, command_of};
+
+use crate::options::{Settings, exec_words, number};
+use crate::word::{is_file, is_source};
+
+/// A command with its options and files.
+#[derive(Clone, Copy, Debug, PartialEq, Eq)]
+pub enum Command<'a> {
+    /// Compiles a C source and runs it.
+    Run(&'a str),
+    /// Runs an image.
+    Exec(Settings, &'a str),
+    /// Puts the text of the code of an object or image.
+    Dis(&'a str),
+    /// Puts the generated program of this size, 1 to 200.
+    Gen(u32),
+    /// Writes to a file, the first, the newest form of the object or image in the other.
+    Migrate(&'a str, &'a str),
+}
+
+/// The word behind a command's name, if the words are these two.
+fn behind<'a>(words: &'a [String], name: &str) -> Option<&'a str>
+    ensures { MatchOption result ((word : List ℕ) → map string_bytes words.now ≡ name.now ∷ word ∷ [] → ⊥) (λ word. map string_bytes words.now ≡ name.now ∷ word.now ∷ []) }
+{
+    if words.len() != 2 {
+        return None;
+    }
+    let word = words[1].as_str();
+    if words[0].as_str() == name {
+        Some(word)
+    } else {
+        None
+    }
+}
+
+fn run_words(words: &[String]) -> Option<&str>
+    ensures { MatchOption result ((file : List ℕ) → Means (map string_bytes words.now) (Run file) → ⊥) (λ file. Means (map string_bytes words.now) (Run file.now)) }
+{
+    match behind(words, "run") {
+        Some(file) if is_source(file) => Some(file),
+        _ => None,
+    }
+}
+
+fn dis_words(words: &[String]) -> Option<&str>
+    ensures { MatchOption result ((file : List ℕ) → Means (map string_bytes words.now) (Dis file) → ⊥) (λ file. Means (map string_bytes words.now) (Dis file.now)) }
+{
+    match behind(words, "dis") {
+        Some(file) if is_file(file) => Some(file),
+        _ => None,
+    }
+}
+
+fn gen_words(words: &[String]) -> Option<u32>
+    ensures { MatchOption result ((n : ℕ) → Means (map string_bytes words.now) (Gen n) → ⊥) (λ n. Means (map string_bytes words.now) (Gen n)) }
+{
+    let n = number(behind(words, "gen")?)?;
+    if 1 <= n && n <= 200 {
+        Some(n as u32)
+    } else {
+        None
+    }
+}
+
+/// The file that is written, and the one that is read.
+fn migrate_words(words: &[String]) -> Option<(&str, &str)>
+    ensures { MatchOption result ((name file : List ℕ) → Means (map string_bytes words.now) (Migrate name file) → ⊥) (λ r. Means (map string_bytes words.now) (Migrate r.0.now r.1.now)) }
+{
+    if words.len() != 4 {
+        return None;
+    }
+    let name = words[2].as_str();
+    let file = words[3].as_str();
+    if words[0].as_str() == "migrate"
+        && words[1].as_str() == "--out"
+        && is_file(name)
+        && is_file(file)
+    {
+        Some((name, file))
+    } else {
+        None
+    }
+}
+
+/// The command that the words mean, if they mean one.
+pub fn command_in(words: &[String]) -> Option<Command<'_>>
+    ensures means { MatchOption result (MeanNothing (map string_bytes words.now)) (λ c. Means (map string_bytes words.now) (command_of c)) }
+    ensures fits { MatchOption result (Unit {0}) (λ c. Fits (command_of c)) }
+{
+    if let Some((settings, file)) = exec_words(words) {
+        return Some(Command::Exec(settings, file));
+    }
+    if let Some(file) = run_words(words) {
+        return Some(Command::Run(file));
+    }
+    if let Some(file) = dis_words(words) {
+        return Some(Command::Dis(file));
+    }
+    if let Some(n) = gen_words(words) {
+        return Some(Command::Gen(n));
+    }
+    match migrate_words(words) {
+        Some((name, file)) => Some(Command::Migrate(name, file)),
+        None => None,
+    }
+}
