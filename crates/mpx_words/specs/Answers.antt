@@ -34,7 +34,8 @@ line_at InputUnread = Some (line_of [] ReadFault)
 line_at OutputUnwritten = Some (line_of [] WriteFault)
 line_at FileUnwritten = Some (line_of [] WriteFault)
 line_at LacksMemory = Some (line_of [] NoMemory)
-line_at (LacksFrames in_use capacity) = Some (explain.line_of (NoFrames in_use capacity) (record { outers = 0; segments = []; files = []; places = [] }))
+line_at (LacksFrames in_use capacity) =
+    Some (explain.line_of (NoFrames in_use capacity) (record { outers = 0; segments = []; files = []; places = [] }))
 
 abbrev pub status_at : Ending → ℕ
 status_at (Whole line status) = status
@@ -149,14 +150,16 @@ Works reads c before after InputUnread = Serves reads c before (λ due. IsCut du
 Works reads c before after OutputUnwritten = Serves reads c before (λ due. IsCut due before after)
 Works reads c before after FileUnwritten = Serves reads c before (λ due. IsUnwritten due before after)
 Works reads c before after LacksMemory = Untouched before after
-Works reads c before after (LacksFrames in_use capacity) = Serves reads c before (λ due. (due.lack ≡ Some (in_use, capacity)) × IsCut due before after)
+Works reads c before after (LacksFrames in_use capacity) =
+    Serves reads c before (λ due. (due.lack ≡ Some (in_use, capacity)) × IsCut due before after)
 
 -- ---- the report
 
 -- the last line is put on standard error, or standard error fails after a front of it, which is status 4
 pub data Reports (line : List ℕ) (due status : ℕ) (before after : Stream) : Type 0 where
   Put : status ≡ due → Adds before.told after.told line → after.faults ≡ before.faults → Reports line due status before after
-  Failed : status ≡ 4 → AddsFront before.told after.told line → HasRisen before.faults after.faults → Reports line due status before after
+  Failed : status ≡ 4 → AddsFront before.told after.told line → HasRisen before.faults after.faults
+      → Reports line due status before after
 
 abbrev pub ReportsIfDue : Option (List ℕ) → ℕ → ℕ → Stream → Stream → Type 0
 ReportsIfDue (Some line) due status before after = Reports line due status before after
@@ -164,8 +167,8 @@ ReportsIfDue None due status before after = (status ≡ due) × Adds before.told
 
 -- ---- the answer
 
--- A command answers so: its work ended as is due, by a fault, for want of memory or for want of frames; the counts of faults tell which;
--- and the last act is the line of how it ended, if one is due.
+-- A command answers so: its work ended as is due, by a fault, for want of memory or for want of frames; the counts of faults tell
+-- which; and the last act is the line of how it ended, if one is due.
 pub record Answers (reads : List ℕ → Reading) (c : Command) (before after : Outside) (status : ℕ) : Type 0 where
   pub end : Ending
   pub works : Works reads c before after end

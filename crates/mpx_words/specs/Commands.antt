@@ -19,8 +19,10 @@ abbrev pub Means : List (List ℕ) → Command → Type 0
 Means words (Run file) = (words ≡ codes "run" ∷ file ∷ []) × IsTrue (is_source_word file)
 Means words (Exec settings file) = IsExec words settings file
 Means words (Dis file) = (words ≡ codes "dis" ∷ file ∷ []) × IsTrue (is_file_word file)
-Means words (Gen n) = (word : List ℕ) × (words ≡ codes "gen" ∷ word ∷ []) × (number_of word ≡ Some n) × (1 ≤ n) × (n ≤ 200)
-Means words (Migrate name file) = (words ≡ codes "migrate" ∷ codes "--out" ∷ name ∷ file ∷ []) × IsTrue (is_file_word name) × IsTrue (is_file_word file)
+Means words (Gen n) =
+    (word : List ℕ) × (words ≡ codes "gen" ∷ word ∷ []) × (number_of word ≡ Some n) × (1 ≤ n) × (n ≤ 200)
+Means words (Migrate name file) =
+    (words ≡ codes "migrate" ∷ codes "--out" ∷ name ∷ file ∷ []) × IsTrue (is_file_word name) × IsTrue (is_file_word file)
 
 -- they mean none
 abbrev pub MeanNothing : List (List ℕ) → Type 0

@@ -45,7 +45,13 @@ pub record Due : Type 0 where
 
 -- this output, and the line of how it ended
 abbrev pub reported : List ℕ → Option (List ℕ) → List ℕ → End → Due
-reported file left out end = record { flow = Some (record { out = out; left = left }); line = Some (line_of file end); status = status_of end; written = None; lack = None }
+reported file left out end = record {
+  flow = Some (record { out = out; left = left });
+  line = Some (line_of file end);
+  status = status_of end;
+  written = None;
+  lack = None;
+}
 
 -- a file is refused
 abbrev pub refused : List ℕ → Option (List ℕ) → End → Due
@@ -57,7 +63,13 @@ printed left text = record { flow = Some (record { out = text; left = left }); l
 
 -- a file is written, and nothing else is done
 abbrev pub wrote : Option (List ℕ) → List ℕ → List ℕ → Due
-wrote left name bytes = record { flow = Some (record { out = []; left = left }); line = None; status = 0; written = Some (record { name = name; bytes = bytes }); lack = None }
+wrote left name bytes = record {
+  flow = Some (record { out = []; left = left });
+  line = None;
+  status = 0;
+  written = Some (record { name = name; bytes = bytes });
+  lack = None;
+}
 
 -- ---- a program of the early form
 
@@ -67,8 +79,10 @@ end_of (Leaves value lb ub) = Bounds value lb ub
 
 -- what a text puts, and how it ends: as the run of the program that it spells, or it is not built
 pub data IsRunOfText (bytes out : List ℕ) (end : End) : Type 0 where
-  IsProgram : (size : ℕ) (acts : List Act) (code : ℕ) → IsEarly bytes size acts code → out ≡ (early_run size acts code).out → end ≡ end_of (early_run size acts code).ends → IsRunOfText bytes out end
-  IsNoProgram : ((size : ℕ) (acts : List Act) (code : ℕ) → IsEarly bytes size acts code → ⊥) → out ≡ [] → end ≡ Unbuilt → IsRunOfText bytes out end
+  IsProgram : (size : ℕ) (acts : List Act) (code : ℕ) → IsEarly bytes size acts code
+      → out ≡ (early_run size acts code).out → end ≡ end_of (early_run size acts code).ends → IsRunOfText bytes out end
+  IsNoProgram : ((size : ℕ) (acts : List Act) (code : ℕ) → IsEarly bytes size acts code → ⊥)
+      → out ≡ [] → end ≡ Unbuilt → IsRunOfText bytes out end
 
 abbrev pub IsRunOf : Content → List ℕ → End → Type 0
 IsRunOf None out end = (out ≡ []) × (end ≡ Missing)
@@ -105,8 +119,12 @@ IsDueOf file left IsDueOfIt (Err end) due = due ≡ refused file left end
 
 -- what is due of a command, by a reader of instructions, the files that there are, and what is told of the input
 abbrev pub IsDue : (List ℕ → Reading) → Command → (List ℕ → Content) → Option (List ℕ) → Due → Type 0
-IsDue reads (Run file) files left due = (out : List ℕ) × (end : End) × IsRunOf (files file) out end × (due ≡ reported file left out end)
+IsDue reads (Run file) files left due =
+    (out : List ℕ) × (end : End) × IsRunOf (files file) out end × (due ≡ reported file left out end)
 IsDue reads (Exec s file) files left due = IsDueOf file left (λ v. IsDueOfRun reads s v left) (formed image_of (files file)) due
-IsDue reads (Dis file) files left due = IsDueOf file left (λ parts due. (text : List ℕ) × IsListing parts text × (due ≡ printed left text)) (formed (by_form object_codes image_codes) (files file)) due
+IsDue reads (Dis file) files left due =
+    IsDueOf file left (λ parts due. (text : List ℕ) × IsListing parts text × (due ≡ printed left text))
+    (formed (by_form object_codes image_codes) (files file)) due
 IsDue reads (Gen n) files left due = due ≡ printed left (program_of n)
-IsDue reads (Migrate name file) files left due = IsDueOf file left (λ spelling due. due ≡ wrote left name spelling) (formed (by_form object_spelling image_spelling) (files file)) due
+IsDue reads (Migrate name file) files left due =
+    IsDueOf file left (λ spelling due. due ≡ wrote left name spelling) (formed (by_form object_spelling image_spelling) (files file)) due

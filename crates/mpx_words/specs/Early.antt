@@ -25,8 +25,10 @@ RunsText bytes end held held' = (out : List ℕ) × IsRunOfText bytes out end ×
 abbrev pub RunsSource : FileFacts → End → Option (List ℕ) → Option (List ℕ) → Type 0
 RunsSource facts ReadFault held held' = held' ≡ held
 RunsSource facts NoMemory held held' = held' ≡ held
-RunsSource facts WriteFault held held' = (content : Content) × MayBe facts content × (out : List ℕ) × (end : End) × IsRunOf content out end × AddsFront held held' out
-RunsSource facts end held held' = (content : Content) × MayBe facts content × (out : List ℕ) × IsRunOf content out end × Adds held held' out
+RunsSource facts WriteFault held held' =
+    (content : Content) × MayBe facts content × (out : List ℕ) × (end : End) × IsRunOf content out end × AddsFront held held' out
+RunsSource facts end held held' =
+    (content : Content) × MayBe facts content × (out : List ℕ) × IsRunOf content out end × Adds held held' out
 
 -- the counts of read faults of the files and of faults of standard output
 abbrev pub SourceCounts : End → ℕ → ℕ → ℕ → ℕ → Type 0

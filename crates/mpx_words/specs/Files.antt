@@ -79,8 +79,10 @@ LoadsBytes facts (Err (BadForm at)) = ⊥
 LoadsBytes facts (Err end) = IsRefused {X = List ℕ} Ok facts end
 
 -- a text made of the value of a file
-abbrev pub Yields : {X : Type 0} → (List ℕ → Result X ℕ) → (X → List ℕ → Type 0) → FileFacts → Result (Vec ℕ Global) End → Type 0
-Yields {X} form Is facts (Ok v) = (bytes : List ℕ) × MayHold facts bytes × (x : X) × (form bytes ≡ Ok x) × Is x v.items
+abbrev pub Yields : {X : Type 0} → (List ℕ → Result X ℕ) → (X → List ℕ → Type 0)
+    → FileFacts → Result (Vec ℕ Global) End → Type 0
+Yields {X} form Is facts (Ok v) =
+    (bytes : List ℕ) × MayHold facts bytes × (x : X) × (form bytes ≡ Ok x) × Is x v.items
 Yields form Is facts (Err end) = IsRefused form facts end
 
 -- the same of bytes
@@ -93,7 +95,8 @@ abbrev pub Reads : {X : Type 0} → (List ℕ → Result X ℕ) → List ℕ →
 Reads form bytes (Ok x) = form bytes ≡ Ok x
 Reads form bytes (Err end) = IsBad form bytes end
 
-abbrev pub Makes : {X : Type 0} → (List ℕ → Result X ℕ) → (X → List ℕ → Type 0) → List ℕ → Result (Vec ℕ Global) End → Type 0
+abbrev pub Makes : {X : Type 0} → (List ℕ → Result X ℕ) → (X → List ℕ → Type 0)
+    → List ℕ → Result (Vec ℕ Global) End → Type 0
 Makes {X} form Is bytes (Ok v) = (x : X) × (form bytes ≡ Ok x) × Is x v.items
 Makes form Is bytes (Err end) = IsBad form bytes end
 

@@ -27,7 +27,8 @@ image_codes v = codes_of v.segments
 -- the text has the lines of code parts in turn
 pub data IsListing : List (List ℕ) → List ℕ → Type 0 where
   Nothing : IsListing [] []
-  Part : (code text : List ℕ) (rest : List (List ℕ)) (more : List ℕ) → Lists code text → IsListing rest more → IsListing (code ∷ rest) (text ++ more)
+  Part : (code text : List ℕ) (rest : List (List ℕ)) (more : List ℕ) → Lists code text → IsListing rest more
+      → IsListing (code ∷ rest) (text ++ more)
 
 -- the listing of a segment's code was added, if it has code
 abbrev pub AddsCode : Segment → List ℕ → List ℕ → Type 0

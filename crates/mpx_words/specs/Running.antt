@@ -30,7 +30,8 @@ run_by reads s v input = image_run reads v (mode_of s) s.turns input
 -- its run in a memory of so many frames, which may end for want of them
 unfoldable pub framed_run_by : (List ℕ → Reading) → Settings → Image → List ℕ → runs.End Backed
 framed_run_by reads s v input =
-    runs.run_of (read_by (ground (configuration s.preserve) v.outers s.bare) reads) s.turns (over_frames (state_at_start v.segments s.preserve input) (touched_after [] v.segments) s.frames)
+    runs.run_of (read_by (ground (configuration s.preserve) v.outers s.bare) reads) s.turns
+    (over_frames (state_at_start v.segments s.preserve input) (touched_after [] v.segments) s.frames)
 
 -- the frames in use, and how many there are, where these are too few: for the segments of the image, or else for a write of its run
 abbrev pub lack_of : Option ℕ → ℕ → runs.End Backed → Option (ℕ × ℕ)
@@ -74,8 +75,11 @@ TellsLack lack stop.WriteFault = Unit {0}
 TellsLack lack why = lack ≡ None
 
 -- the run of an image, or want of memory before it
-abbrev pub RunsImage : (List ℕ → Reading) → Settings → Image → Option (List ℕ) → Result Stop OutOfMemory → Option (List ℕ) → Option (List ℕ) → Option (List ℕ) → Type 0
-RunsImage reads s v left (Ok why) held held' left' = (input : List ℕ) → left ≡ Some input → TellsLack (lack_by reads s v input) why × Comes (run_by reads s v input) why held held' left'
+abbrev pub RunsImage : (List ℕ → Reading) → Settings → Image → Option (List ℕ) → Result Stop OutOfMemory
+    → Option (List ℕ) → Option (List ℕ) → Option (List ℕ) → Type 0
+RunsImage reads s v left (Ok why) held held' left' =
+    (input : List ℕ) → left ≡ Some input
+    → TellsLack (lack_by reads s v input) why × Comes (run_by reads s v input) why held held' left'
 RunsImage reads s v left (Err lack) held held' left' = (held' ≡ held) × (left' ≡ left)
 
 -- the counts of the source and of the sink rise exactly where their fault ends the run

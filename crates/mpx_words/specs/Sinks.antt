@@ -13,5 +13,7 @@ PutsAll old new bytes (Err e) = AddsFront old new bytes
 
 -- all of a text was put, which is status 0 without a line; or a front of it, and then came the line of the fault
 pub data Prints (text : List ℕ) (status : ℕ) (out out' err err' : Stream) : Type 0 where
-  All : status ≡ 0 → Adds out.told out'.told text → out'.faults ≡ out.faults → err' ≡ err → Prints text status out out' err err'
-  Part : AddsFront out.told out'.told text → HasRisen out.faults out'.faults → Reports (line_of [] WriteFault) 4 status err err' → Prints text status out out' err err'
+  All : status ≡ 0 → Adds out.told out'.told text → out'.faults ≡ out.faults → err' ≡ err
+      → Prints text status out out' err err'
+  Part : AddsFront out.told out'.told text → HasRisen out.faults out'.faults → Reports (line_of [] WriteFault) 4 status err err'
+      → Prints text status out out' err err'

@@ -111,8 +111,14 @@ pub fn run_dis<F: Files, O: Sink, E: Sink>(
 ) -> u8
     requires { length name.now ≤ 255 }
     ensures { (reads : List ℕ → Reading) (input : Stream) → Answers reads (Dis name.now)
-        (outside (shelf (F.contents files.old) (F.read_faults files.old) (F.write_faults files.old)) input (stream (O.held out.old) (O.faults out.old)) (stream (E.held err.old) (E.faults err.old)))
-        (outside (shelf (F.contents files.new) (F.read_faults files.new) (F.write_faults files.new)) input (stream (O.held out.new) (O.faults out.new)) (stream (E.held err.new) (E.faults err.new))) result }
+        (outside (shelf (F.contents files.old) (F.read_faults files.old) (F.write_faults files.old))
+        input
+        (stream (O.held out.old) (O.faults out.old))
+        (stream (E.held err.old) (E.faults err.old)))
+        (outside (shelf (F.contents files.new) (F.read_faults files.new) (F.write_faults files.new))
+        input
+        (stream (O.held out.new) (O.faults out.new))
+        (stream (E.held err.new) (E.faults err.new))) result }
 {
     match listing(alloc, files, name) {
         Err(end) => report(err, name, end),

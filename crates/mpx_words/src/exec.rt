@@ -85,8 +85,14 @@ pub fn run_exec<F: Files, I: Source, O: Sink, E: Sink>(
     requires short { length name.now ≤ 255 }
     requires few { settings.frames ≤ 524288 }
     ensures { (reads : List ℕ → Reading) → IsReader reads → Answers reads (Exec settings name.now)
-        (outside (shelf (F.contents files.old) (F.read_faults files.old) (F.write_faults files.old)) (stream (I.left input.old) (I.faults input.old)) (stream (O.held out.old) (O.faults out.old)) (stream (E.held err.old) (E.faults err.old)))
-        (outside (shelf (F.contents files.new) (F.read_faults files.new) (F.write_faults files.new)) (stream (I.left input.new) (I.faults input.new)) (stream (O.held out.new) (O.faults out.new)) (stream (E.held err.new) (E.faults err.new))) result }
+        (outside (shelf (F.contents files.old) (F.read_faults files.old) (F.write_faults files.old))
+        (stream (I.left input.old) (I.faults input.old))
+        (stream (O.held out.old) (O.faults out.old))
+        (stream (E.held err.old) (E.faults err.old)))
+        (outside (shelf (F.contents files.new) (F.read_faults files.new) (F.write_faults files.new))
+        (stream (I.left input.new) (I.faults input.new))
+        (stream (O.held out.new) (O.faults out.new))
+        (stream (E.held err.new) (E.faults err.new))) result }
 {
     match load_image(alloc, files, name) {
         Err(end) => report(err, name, end),

@@ -74,8 +74,12 @@ pub fn run_migrate<F: Files, E: Sink>(
 ) -> u8
     requires { length name.now ≤ 255 }
     ensures { (reads : List ℕ → Reading) (input out : Stream) → Answers reads (Migrate to.now name.now)
-        (outside (shelf (F.contents files.old) (F.read_faults files.old) (F.write_faults files.old)) input out (stream (E.held err.old) (E.faults err.old)))
-        (outside (shelf (F.contents files.new) (F.read_faults files.new) (F.write_faults files.new)) input out (stream (E.held err.new) (E.faults err.new))) result }
+        (outside (shelf (F.contents files.old) (F.read_faults files.old) (F.write_faults files.old))
+        input out
+        (stream (E.held err.old) (E.faults err.old)))
+        (outside (shelf (F.contents files.new) (F.read_faults files.new) (F.write_faults files.new))
+        input out
+        (stream (E.held err.new) (E.faults err.new))) result }
 {
     match spelling_in(alloc, files, name) {
         Err(end) => report(err, name, end),

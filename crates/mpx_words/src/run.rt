@@ -36,13 +36,25 @@ pub fn run_words<F: Files, I: Source, O: Sink, E: Sink>(
 ) -> u8
     // A command that the words mean answers as is due, by any exact reader of instructions.
     ensures answers { (reads : List ℕ → Reading) → IsReader reads → (c : Meant) → Means (map string_bytes words.now) c → Answers reads c
-        (outside (shelf (F.contents files.old) (F.read_faults files.old) (F.write_faults files.old)) (stream (I.left input.old) (I.faults input.old)) (stream (O.held out.old) (O.faults out.old)) (stream (E.held err.old) (E.faults err.old)))
-        (outside (shelf (F.contents files.new) (F.read_faults files.new) (F.write_faults files.new)) (stream (I.left input.new) (I.faults input.new)) (stream (O.held out.new) (O.faults out.new)) (stream (E.held err.new) (E.faults err.new))) result }
+        (outside (shelf (F.contents files.old) (F.read_faults files.old) (F.write_faults files.old))
+        (stream (I.left input.old) (I.faults input.old))
+        (stream (O.held out.old) (O.faults out.old))
+        (stream (E.held err.old) (E.faults err.old)))
+        (outside (shelf (F.contents files.new) (F.read_faults files.new) (F.write_faults files.new))
+        (stream (I.left input.new) (I.faults input.new))
+        (stream (O.held out.new) (O.faults out.new))
+        (stream (E.held err.new) (E.faults err.new))) result }
 
     // Words that mean none are refused, and no others.
     ensures refuses { MeanNothing (map string_bytes words.now) → Refuses
-        (outside (shelf (F.contents files.old) (F.read_faults files.old) (F.write_faults files.old)) (stream (I.left input.old) (I.faults input.old)) (stream (O.held out.old) (O.faults out.old)) (stream (E.held err.old) (E.faults err.old)))
-        (outside (shelf (F.contents files.new) (F.read_faults files.new) (F.write_faults files.new)) (stream (I.left input.new) (I.faults input.new)) (stream (O.held out.new) (O.faults out.new)) (stream (E.held err.new) (E.faults err.new))) result }
+        (outside (shelf (F.contents files.old) (F.read_faults files.old) (F.write_faults files.old))
+        (stream (I.left input.old) (I.faults input.old))
+        (stream (O.held out.old) (O.faults out.old))
+        (stream (E.held err.old) (E.faults err.old)))
+        (outside (shelf (F.contents files.new) (F.read_faults files.new) (F.write_faults files.new))
+        (stream (I.left input.new) (I.faults input.new))
+        (stream (O.held out.new) (O.faults out.new))
+        (stream (E.held err.new) (E.faults err.new))) result }
     ensures refused { result ≡ 2 → MeanNothing (map string_bytes words.now) }
 
     // A fault is told only where a count of faults rose in this call.
@@ -66,8 +78,14 @@ fn do_command<F: Files, I: Source, O: Sink, E: Sink>(
 ) -> u8
     requires { Fits (command_of command) }
     ensures { (reads : List ℕ → Reading) → IsReader reads → Answers reads (command_of command.entry)
-        (outside (shelf (F.contents files.old) (F.read_faults files.old) (F.write_faults files.old)) (stream (I.left input.old) (I.faults input.old)) (stream (O.held out.old) (O.faults out.old)) (stream (E.held err.old) (E.faults err.old)))
-        (outside (shelf (F.contents files.new) (F.read_faults files.new) (F.write_faults files.new)) (stream (I.left input.new) (I.faults input.new)) (stream (O.held out.new) (O.faults out.new)) (stream (E.held err.new) (E.faults err.new))) result }
+        (outside (shelf (F.contents files.old) (F.read_faults files.old) (F.write_faults files.old))
+        (stream (I.left input.old) (I.faults input.old))
+        (stream (O.held out.old) (O.faults out.old))
+        (stream (E.held err.old) (E.faults err.old)))
+        (outside (shelf (F.contents files.new) (F.read_faults files.new) (F.write_faults files.new))
+        (stream (I.left input.new) (I.faults input.new))
+        (stream (O.held out.new) (O.faults out.new))
+        (stream (E.held err.new) (E.faults err.new))) result }
 {
     match command {
         Command::Run(file) => run_source(alloc, file, files, out, err),
