@@ -8,8 +8,8 @@ use Rattle.mx_base.specs.Outside.{FileFacts, Untold, Absent, Holds, Adds}
 use Rattle.obj_file.specs.Machine.{Reading}
 use Rattle.mpx_words.specs.declared.end.End.{End}
 use Rattle.mpx_words.specs.declared.end.End.TheVariants as end
-use Rattle.mpx_words.specs.Answers.{Whole, FileUnread, LacksMemory, Answers, Serves, Untouched, IsDone, IsPlain, KeepsFiles, Reports}
-use Rattle.mpx_words.specs.Commands.{Command}
+use Rattle.mpx_words.specs.Answers.{LeavesInput, Whole, FileUnread, LacksMemory, Answers, Serves, Untouched, IsDone, IsPlain, KeepsFiles, Reports}
+use Rattle.mpx_words.specs.Commands.{Command, Run, Exec, Dis, Gen, Migrate}
 use Rattle.mpx_words.specs.Due.{Due, IsDue, refused}
 use Rattle.mpx_words.specs.Ends.{line_of, status_of}
 use Rattle.mpx_words.specs.Files.{Content, MayBe, file_limit, or_bad, formed, IsRefused, LoadCounts}
@@ -83,6 +83,13 @@ stream_same a b n m e h = λ i. stream (e i) (h i)
 pub plain_one : IsPlain 1
 plain_one = record { not_refused = λ e. omega (arith, e); not_unread = λ e. omega (arith, e); not_unwritten = λ e. omega (arith, e) }
 
+pub leaves : (c : Command) (before after : Outside) → after.input ≡ before.input → LeavesInput c before after
+leaves (Run file) before after e = e
+leaves (Exec settings file) before after e = tt
+leaves (Dis file) before after e = e
+leaves (Gen n) before after e = e
+leaves (Migrate name file) before after e = e
+
 -- ---- a refused file
 
 module _ {X : Type 0} (form : List ℕ → Result X ℕ) (reads : List ℕ → Reading) (c : Command) (file : List ℕ) (before after : Outside) (status : ℕ)
@@ -108,6 +115,7 @@ module _ {X : Type 0} (form : List ℕ → Result X ℕ) (reads : List ℕ → R
       flows = (kept before.out after.out same.out, ap (λ (s : Stream). s.told) same.input);
       writes = same.files;
     });
+    input = leaves c before after same.input;
     counts = record { reads = counts; writes = same.writes; input = ap (λ (s : Stream). s.faults) same.input; out = ap (λ (s : Stream). s.faults) same.out };
     reports = reports;
   }
@@ -121,12 +129,14 @@ module _ {X : Type 0} (form : List ℕ → Result X ℕ) (reads : List ℕ → R
   refused_answers end.ReadFault h counts same reports = record {
     end = FileUnread;
     works = untouched before after same;
+    input = leaves c before after same.input;
     counts = record { reads = counts; writes = same.writes; input = ap (λ (s : Stream). s.faults) same.input; out = ap (λ (s : Stream). s.faults) same.out };
     reports = reports;
   }
   refused_answers end.NoMemory h counts same reports = record {
     end = LacksMemory;
     works = untouched before after same;
+    input = leaves c before after same.input;
     counts = record { reads = counts; writes = same.writes; input = ap (λ (s : Stream). s.faults) same.input; out = ap (λ (s : Stream). s.faults) same.out };
     reports = reports;
   }
@@ -142,6 +152,7 @@ pub memory_answers : (reads : List ℕ → Reading) (c : Command) (file : List �
 memory_answers reads c file before after status same counts reports = record {
   end = LacksMemory;
   works = untouched before after same;
+  input = leaves c before after same.input;
   counts = record { reads = counts; writes = same.writes; input = ap (λ (s : Stream). s.faults) same.input; out = ap (λ (s : Stream). s.faults) same.out };
   reports = reports;
 }

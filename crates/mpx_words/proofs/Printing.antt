@@ -18,7 +18,7 @@ use Rattle.mpx_words.specs.Ends.{line_of}
 use Rattle.mpx_words.specs.Files.{Content, MayHold, formed, by_form, Yields, IsText}
 use Rattle.mpx_words.specs.Outside.{Stream, Outside}
 use Rattle.mpx_words.specs.Sinks.{Prints, All, Part}
-use Rattle.mpx_words.proofs.Choices.{plainly, may_plainly, with_file, may_with, with_same, formed_ok, kept}
+use Rattle.mpx_words.proofs.Choices.{leaves, plainly, may_plainly, with_file, may_with, with_same, formed_ok, kept}
 
 plain_zero : IsPlain 0
 plain_zero = record { not_refused = λ e. omega (arith, e); not_unread = λ e. omega (arith, e); not_unwritten = λ e. omega (arith, e) }
@@ -38,12 +38,14 @@ module _ (reads : List ℕ → Reading) (c : Command) (before after : Outside) (
       flows = (adds, ap (λ (s : Stream). s.told) input);
       writes = files;
     });
+    input = leaves c before after input;
     counts = record { reads = counts; writes = writes; input = ap (λ (s : Stream). s.faults) input; out = faults };
     reports = (is, kept before.err after.err same, ap (λ (s : Stream). s.faults) same);
   }
   printed_answers (Part adds risen reports) = record {
     end = OutputUnwritten;
     works = serves (λ (due : Due). IsCut due before after) (record { flows = adds; files = files });
+    input = leaves c before after input;
     counts = record { reads = counts; writes = writes; input = ap (λ (s : Stream). s.faults) input; out = risen };
     reports = reports;
   }
@@ -76,6 +78,7 @@ module _ (reads : List ℕ → Reading) (c : Command) (before after : Outside) (
       flows = (kept before.out after.out out, ap (λ (s : Stream). s.told) input);
       writes = (holds, others);
     });
+    input = leaves c before after input;
     counts = record { reads = counts; writes = writes; input = ap (λ (s : Stream). s.faults) input; out = ap (λ (s : Stream). s.faults) out };
     reports = (is, kept before.err after.err same, ap (λ (s : Stream). s.faults) same);
   }
@@ -90,6 +93,7 @@ module _ (reads : List ℕ → Reading) (c : Command) (before after : Outside) (
       lost = lost;
       others = others;
     });
+    input = leaves c before after input;
     counts = record { reads = counts; writes = writes; input = ap (λ (s : Stream). s.faults) input; out = ap (λ (s : Stream). s.faults) out };
     reports = reports;
   }

@@ -125,6 +125,7 @@ module _ (reads : List ℕ → Reading) (file : List ℕ) (before after : Outsid
       flows = (h.4, ap (λ (s : Stream). s.told) input);
       writes = files;
     });
+    input = input;
     counts = record { reads = counts.0; writes = writes; input = ap (λ (s : Stream). s.faults) input; out = counts.1 };
     reports = reports;
   }
@@ -134,18 +135,21 @@ module _ (reads : List ℕ → Reading) (file : List ℕ) (before after : Outsid
   source_answers end.ReadFault h counts reports = record {
     end = FileUnread;
     works = record { out = subst (λ (t : Option (List ℕ)). Adds before.out.told t []) (sym h) (adds_nothing before.out.told); input = ap (λ (s : Stream). s.told) input; files = files };
+    input = input;
     counts = record { reads = counts.0; writes = writes; input = ap (λ (s : Stream). s.faults) input; out = counts.1 };
     reports = reports;
   }
   source_answers end.NoMemory h counts reports = record {
     end = LacksMemory;
     works = record { out = subst (λ (t : Option (List ℕ)). Adds before.out.told t []) (sym h) (adds_nothing before.out.told); input = ap (λ (s : Stream). s.told) input; files = files };
+    input = input;
     counts = record { reads = counts.0; writes = writes; input = ap (λ (s : Stream). s.faults) input; out = counts.1 };
     reports = reports;
   }
   source_answers end.WriteFault h counts reports = record {
     end = OutputUnwritten;
     works = serves h.0 h.2 h.3 h.1 h.4 (λ (due : Due). IsCut due before after) (record { flows = h.5; files = files });
+    input = input;
     counts = record { reads = counts.0; writes = writes; input = ap (λ (s : Stream). s.faults) input; out = counts.1 };
     reports = reports;
   }

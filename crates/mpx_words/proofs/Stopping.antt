@@ -128,6 +128,7 @@ module _ (reads : List ℕ → Reading) (s : Settings) (file : List ℕ) (v : Im
               flows = (end.puts, end.left);
               writes = files;
             }) (record { line_due = refl; status_due = refl; plain = plain why own; enough = refl; flows = tt; writes = files });
+        input = tt;
         counts = record { reads = unread; writes = unwritten; input = same.0; out = same.1 };
         reports = reports;
       }
@@ -146,6 +147,7 @@ module _ (reads : List ℕ → Reading) (s : Settings) (file : List ℕ) (v : Im
   ran_answers stop.NoTable ran rises reports = own_answers stop.NoTable tt ran rises reports
   ran_answers (stop.NoFrames in_use capacity) ran rises reports = record {
     end = LacksFrames in_use capacity;
+    input = tt;
     works = by_input (λ (due : Due). (due.lack ≡ Some (in_use, capacity)) × IsCut due before after) stop.OutOfTurns (Some (in_use, capacity))
         (λ input e. let h = ran input e in (h.0, record { flows = h.1; files = files })) (refl, record { flows = tt; files = files });
     counts = record { reads = unread; writes = unwritten; input = rises.0; out = rises.1 };
@@ -153,12 +155,14 @@ module _ (reads : List ℕ → Reading) (s : Settings) (file : List ℕ) (v : Im
   }
   ran_answers stop.ReadFault ran rises reports = record {
     end = InputUnread;
+    input = tt;
     works = by_input (λ (due : Due). IsCut due before after) stop.ReadFault None (λ input e. record { flows = (ran input e).1; files = files }) (record { flows = tt; files = files });
     counts = record { reads = unread; writes = unwritten; input = rises.0; out = rises.1 };
     reports = reports;
   }
   ran_answers stop.WriteFault ran rises reports = record {
     end = OutputUnwritten;
+    input = tt;
     works = by_input (λ (due : Due). IsCut due before after) stop.WriteFault None (λ input e. record { flows = (ran input e).1; files = files }) (record { flows = tt; files = files });
     counts = record { reads = unread; writes = unwritten; input = rises.0; out = rises.1 };
     reports = reports;

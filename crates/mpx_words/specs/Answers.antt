@@ -5,7 +5,7 @@ use Rattle.mx_base.specs.declared.stops.Stop.TheVariants.{NoFrames}
 use Rattle.mx_base.specs.Outside.{Untold, HoldsWhereTold, KeepsWhereTold, Adds, AddsFront, HasRisen}
 use Rattle.obj_file.specs.Machine.{Reading}
 use Rattle.mpx_words.specs.declared.end.End.TheVariants.{WordsRefused, ReadFault, WriteFault, NoMemory}
-use Rattle.mpx_words.specs.Commands.{Command}
+use Rattle.mpx_words.specs.Commands.{Command, Exec}
 use Rattle.mpx_words.specs.Due.{Due, Flow, Written, IsDue}
 use Rattle.mpx_words.specs.Ends.{line_of}
 use Rattle.mpx_words.specs.Files.{Content, MayBe}
@@ -153,6 +153,11 @@ Works reads c before after LacksMemory = Untouched before after
 Works reads c before after (LacksFrames in_use capacity) =
     Serves reads c before (λ due. (due.lack ≡ Some (in_use, capacity)) × IsCut due before after)
 
+-- only `exec` takes from the input
+abbrev pub LeavesInput : Command → Outside → Outside → Type 0
+LeavesInput (Exec settings file) before after = Unit {0}
+LeavesInput c before after = after.input ≡ before.input
+
 -- ---- the report
 
 -- the last line is put on standard error, or standard error fails after a front of it, which is status 4
@@ -173,6 +178,7 @@ pub record Answers (reads : List ℕ → Reading) (c : Command) (before after : 
   pub end : Ending
   pub works : Works reads c before after end
   pub counts : Counts end before after
+  pub input : LeavesInput c before after
   pub reports : ReportsIfDue (line_at end) (status_at end) status before.err after.err
 
 -- words that mean no command are refused
