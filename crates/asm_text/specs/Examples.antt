@@ -138,13 +138,13 @@ examples_of_refusals =
 
 -- a whole object: `.data`, a label with its signature, an import, and a fix-up of each form
 abbrev pub example_text : List ℕ
-example_text = lined (codes "main:/.sig main fi()/call put/mov eax, number+1/lea rax, [rip+number]/mov dword [rip+number], 5/ret/.data/number:/.sig number d8/.quad main")
+example_text = lined (codes "main:/.sig main fi()/call put/mov eax, number+1/lea rax, [rip+number]/mov dword [rip+number], 5/mov dword [number+4], 6/ret/.data/number:/.sig number d8/.quad main")
 
 abbrev pub example_object : Object
 example_object = record {
   legacy = true;
   file = [];
-  code = hexadecimal (codes "E800000000B800000000488D0500000000C7050000000005000000C3");
+  code = hexadecimal (codes "E800000000B800000000488D0500000000C7050000000005000000C704250000000006000000C3");
   stored = hexadecimal (codes "0000000000000000");
   symbols =
       record { part = 1; offset = 0; name = codes "main"; sig = codes "fi()" }
@@ -156,6 +156,7 @@ example_object = record {
       ∷ record { part = 1; offset = 6; form = 1; symbol = 1; addend = pos 1 }
       ∷ record { part = 1; offset = 13; form = 2; symbol = 1; addend = pos 0 }
       ∷ record { part = 1; offset = 19; form = 2; symbol = 1; addend = negsuc 3 }
+      ∷ record { part = 1; offset = 30; form = 1; symbol = 1; addend = pos 4 }
       ∷ record { part = 2; offset = 0; form = 0; symbol = 0; addend = pos 0 }
       ∷ [];
   places = [];

@@ -8,6 +8,8 @@ use Rattle.x86_forms.specs.declared.instr.Instr.{Instr}
 use Rattle.x86_forms.specs.declared.layout.Layout.{Layout}
 use Rattle.x86_forms.specs.declared.layout.Operands.{Operands}
 use Rattle.x86_forms.specs.declared.layout.Operands.TheVariants.{Bare, InOpcode, InModrm}
+use Rattle.x86_forms.specs.declared.instr.Base.{Base}
+use Rattle.x86_forms.specs.declared.instr.Base.TheVariants.{None as NoBase, Reg as BaseReg, Rip}
 use Rattle.x86_forms.specs.declared.instr.Rm.{Rm}
 use Rattle.x86_forms.specs.declared.instr.Rm.TheVariants.{Reg as InReg, Mem as InMem}
 use Rattle.x86_forms.specs.Fits.{fits_64}
@@ -49,6 +51,22 @@ behind_operands Bare n = 0
 abbrev pub behind_field : Layout → ℕ
 behind_field l = behind_operands l.operands l.imm_len
 
+-- those of them that are taken off the addend: the value behind `rip` is reckoned from the end of the field, and that of the instruction is
+-- meant; an absolute one is the address itself
+abbrev pub behind_rip : Base → ℕ → ℕ
+behind_rip Rip n = n
+behind_rip NoBase n = 0
+behind_rip (BaseReg r) n = 0
+
+abbrev pub taken_operands : Operands → ℕ → ℕ
+taken_operands (InModrm reg low (InMem m) low_rm) n = behind_rip m.base n
+taken_operands (InModrm reg low (InReg r) low_rm) n = 0
+taken_operands (InOpcode r) n = 0
+taken_operands Bare n = 0
+
+abbrev pub taken_off : Layout → ℕ
+taken_off l = taken_operands l.operands l.imm_len
+
 -- the operands of an instruction, one or two, are cut at the first comma
 abbrev pub is_no_comma : ℕ → Bool
 is_no_comma b = not (nat_eq b 44)
@@ -71,10 +89,10 @@ first_of text = if ended text then Some (bare Nothing) else operand_of (first_te
 abbrev pub naming : Named → Named → Named
 naming a b = if nat_eq (length a.name) 0 then b else a
 
--- a number added to a name of a fix-up, of which the bytes behind the field are taken
+-- a number added to a name of a fix-up, off which some bytes are taken
 abbrev pub fix_addend : Option ℤ → ℕ → Option ℤ
-fix_addend (Some z) behind = if fits_64 z && fits_64 (z -ℤ pos behind) then Some (z -ℤ pos behind) else None
-fix_addend None behind = None
+fix_addend (Some z) taken = if fits_64 z && fits_64 (z -ℤ pos taken) then Some (z -ℤ pos taken) else None
+fix_addend None taken = None
 
 abbrev pub coded : Instr → List ℕ → Option ℤ → Line
 coded instr name (Some z) = record { kind = k.Code instr; name = name; addend = z; text = [] }
@@ -85,7 +103,7 @@ unfoldable pub code_line : Choice → Named → Line
 code_line c x =
     if not (valid_of c.instr) then line k.Shape
     else (if not c.fits then line k.Range
-    else coded c.instr x.name (fix_addend x.addend (behind_field (layout_of c.instr))))
+    else coded c.instr x.name (fix_addend x.addend (taken_off (layout_of c.instr))))
 
 unfoldable pub with_operands : Bool → Mnemonic → Named → Named → Line
 with_operands prefixed m a b = either (built prefixed m a.operand b.operand) (λ c. code_line c (naming a b)) (line k.Shape)

@@ -16,7 +16,7 @@ use asm_names::{Mnemonic, mnemonic_of};
 use mx_base::{IntKind, wrap};
 use obj_file::{is_data_sig, is_function_sig};
 use x86_encode::lay_out;
-use x86_forms::{Layout, Operands, Rm, valid};
+use x86_forms::{Base, Layout, Operands, Rm, valid};
 
 /// What a line is; the name that it defines, uses or signs, which is empty where there is none; the number added to the name; and
 /// the numbers of `.byte` or the signature of `.sig`, as text.
@@ -45,6 +45,20 @@ pub fn behind_field(l: &Layout) -> u8
 {
     match l.operands {
         Operands::InModrm { rm: Rm::Mem(_), .. } => l.imm_len,
+        _ => 0,
+    }
+}
+
+/// How many of them are taken off the addend: those behind a displacement from `rip`, whose value is reckoned from the end of the
+/// field.
+fn taken_off(l: &Layout) -> u8
+    ensures { result ≡ spec.taken_off l.now }
+{
+    match l.operands {
+        Operands::InModrm { rm: Rm::Mem(m), .. } => match m.base {
+            Base::Rip => l.imm_len,
+            Base::None | Base::Reg(_) => 0,
+        },
         _ => 0,
     }
 }
@@ -80,12 +94,12 @@ fn second_operand(text: &[u8]) -> Option<Named<'_>>
     }
 }
 
-/// The number added to the name in a field, less the bytes behind the field.
-fn fix_addend(n: Option<i128>, behind: u8) -> Option<i64>
-    ensures { result ≡ spec.fix_addend n behind }
+/// The number added to the name in a field, less some bytes.
+fn fix_addend(n: Option<i128>, taken: u8) -> Option<i64>
+    ensures { result ≡ spec.fix_addend n taken }
 {
     let z = i64::try_from(n?).ok()?;
-    z.checked_sub(i64::from(behind))
+    z.checked_sub(i64::from(taken))
 }
 
 fn naming<'a>(a: Named<'a>, b: Named<'a>) -> Named<'a>
@@ -105,7 +119,7 @@ fn code_line<'a>(c: Choice, x: Named<'a>) -> Line<'a>
     if !c.fits {
         return of_kind(Kind::Range);
     }
-    match fix_addend(x.addend, behind_field(&lay_out(&c.instr))) {
+    match fix_addend(x.addend, taken_off(&lay_out(&c.instr))) {
         Some(addend) => Line {
             kind: Kind::Code(c.instr),
             name: x.name,

@@ -22,7 +22,7 @@ use Rattle.asm_text.specs.Cuts.{is}
 use Rattle.asm_text.specs.Lexical.{either, is_blank, is_word_byte, skip, ended, word_at, after_word, mark_at, number_alone, addend_at, is_name, is_local}
 use Rattle.asm_text.specs.Operands.{Named, bare, operand_of}
 use Rattle.asm_text.specs.Instructions.{built}
-use Rattle.asm_text.specs.Lines.{Line, line, behind_field, first_text, other_text, second_of, first_of, naming, fix_addend, coded, code_line, with_operands, operands_line, instruction, parts_of, is_number_text, is_byte_text, byte_line, address_line, quad_number, quad_name, quad_line, zero_number, zero_line, is_alignment, align_number, align_line, begins_with_blank, is_signature, sig_text, after_sig, signs, sig_line, word_alone, data_directive, directive, label_line, code_only, statement, is_no_comment, parsed, line_of}
+use Rattle.asm_text.specs.Lines.{Line, line, taken_off, first_text, other_text, second_of, first_of, naming, fix_addend, coded, code_line, with_operands, operands_line, instruction, parts_of, is_number_text, is_byte_text, byte_line, address_line, quad_number, quad_name, quad_line, zero_number, zero_line, is_alignment, align_number, align_line, begins_with_blank, is_signature, sig_text, after_sig, signs, sig_line, word_alone, data_directive, directive, label_line, code_only, statement, is_no_comment, parsed, line_of}
 use Rattle.assembler.specs.Sound.{most_text, is_word, NamesField, IsSound}
 use Rattle.assembler.proofs.Fields.{Fielded, built_fields}
 use Rattle.assembler.proofs.SoundOperands.{of_some, IsSoundOperand, OnNamed, operand_of_ok, holds_if, holds_either}
@@ -63,9 +63,9 @@ coded_sound sd sec i name None v n f = tt
 code_line_sound : (sd : Bool) → sd ≡ false → (c : Choice) (x : Named) → NamesField x.name c.instr → IsSound sd (code_line c x)
 unfolding code_line
 code_line_sound sd sec c x n =
-    sound_if sd (not (valid_of c.instr)) (line k.Shape) (if not c.fits then line k.Range else coded c.instr x.name (fix_addend x.addend (behind_field (layout_of c.instr)))) (λ _. shape sd)
-    (λ e. sound_if sd (not c.fits) (line k.Range) (coded c.instr x.name (fix_addend x.addend (behind_field (layout_of c.instr)))) (λ _. range sd)
-    (λ _. coded_sound sd sec c.instr x.name (fix_addend x.addend (behind_field (layout_of c.instr))) (not-false (valid_of c.instr) e) n (add_fits x.addend (behind_field (layout_of c.instr)))))
+    sound_if sd (not (valid_of c.instr)) (line k.Shape) (if not c.fits then line k.Range else coded c.instr x.name (fix_addend x.addend (taken_off (layout_of c.instr)))) (λ _. shape sd)
+    (λ e. sound_if sd (not c.fits) (line k.Range) (coded c.instr x.name (fix_addend x.addend (taken_off (layout_of c.instr)))) (λ _. range sd)
+    (λ _. coded_sound sd sec c.instr x.name (fix_addend x.addend (taken_off (layout_of c.instr))) (not-false (valid_of c.instr) e) n (add_fits x.addend (taken_off (layout_of c.instr)))))
 
 names_field : (p : Bool) (m : Mnemonic) (a b : Named) (c : Choice) → IsSoundOperand a → IsSoundOperand b → built p m a.operand b.operand ≡ Some c → NamesField (naming a b).name c.instr
 names_field p m a b c sa sb e = by (nat_eq (length a.name) 0) refl sa sb
