@@ -6,7 +6,7 @@ use Rattle.fat_ir.specs.declared.step.FatStep.{FatStep}
 use Rattle.step_code.specs.declared.pieces.Piece.{Piece}
 use Rattle.step_code.specs.Steps.{Plan, lower}
 use Rattle.step_code.specs.Homing.{unset_home, unset_from}
-use Rattle.step_code.specs.Bytes.{size_of_piece, size_of_pieces}
+use Rattle.step_code.specs.Bytes.{size_of_piece, size_of_pieces, size_of_steps}
 use Rattle.code_emit.specs.Unlinked.{unlinked_piece, unlinked_pieces, unlinked_steps}
 use Rattle.code_emit.proofs.Sized.{blank_size}
 
@@ -54,3 +54,35 @@ next_unset plan out new start x private low is same =
     ∙ is (unset_from plan (suc x) (private - (x + 1)) [])
     ∙ ap (λ (n : ℕ). out ++ unset_from plan x n []) left
     ∙ same
+
+pub length_steps : (plan : Plan) (labels : List ℕ) (at : ℕ) (steps : List FatStep) → length (unlinked_steps plan labels at steps) ≡ size_of_steps plan steps
+length_steps plan labels at [] = refl
+length_steps plan labels at (step ∷ steps) =
+    length-append (unlinked_pieces labels at (lower plan step)) (unlinked_steps plan labels (at + size_of_pieces (lower plan step)) steps)
+    ∙ (λ i. length_unlinked labels at (lower plan step) i + length_steps plan labels (at + size_of_pieces (lower plan step)) steps i)
+
+-- bytes behind bytes, and what comes behind both
+then_more : (code next end more : List ℕ) (size : ℕ) (rest : ℕ → List ℕ) → next ≡ code ++ more → length more ≡ size → end ≡ next ++ rest (length next) → end ≡ code ++ (more ++ rest (length code + size))
+then_more code next end more size rest is long all =
+    let longer : length next ≡ length code + size = ap length is ∙ length-append code more ∙ ap (λ (n : ℕ). length code + n) long in
+    all
+    ∙ (λ j. is j ++ rest (longer j))
+    ∙ append_assoc code more (rest (length code + size))
+
+pub five_parts : (plan : Plan) (labels c0 c1 c2 c3 c4 c5 : List ℕ) (entry home : List Piece) (steps : List FatStep) (end return : List Piece)
+    → c1 ≡ c0 ++ unlinked_pieces labels (length c0) entry → c2 ≡ c1 ++ unlinked_pieces labels (length c1) home → c3 ≡ c2 ++ unlinked_steps plan labels (length c2) steps
+    → c4 ≡ c3 ++ unlinked_pieces labels (length c3) end → c5 ≡ c4 ++ unlinked_pieces labels (length c4) return
+    → c5 ≡ c0 ++ (unlinked_pieces labels (length c0) entry
+    ++ (unlinked_pieces labels (length c0 + size_of_pieces entry) home
+    ++ (unlinked_steps plan labels (length c0 + size_of_pieces entry + size_of_pieces home) steps
+    ++ (unlinked_pieces labels (length c0 + size_of_pieces entry + size_of_pieces home + size_of_steps plan steps) end
+    ++ unlinked_pieces labels (length c0 + size_of_pieces entry + size_of_pieces home + size_of_steps plan steps + size_of_pieces end) return))))
+five_parts plan labels c0 c1 c2 c3 c4 c5 entry home steps end return e1 e2 e3 e4 e5 =
+    let at_return : ℕ → List ℕ = λ n. unlinked_pieces labels n return in
+    let at_end : ℕ → List ℕ = λ n. unlinked_pieces labels n end ++ at_return (n + size_of_pieces end) in
+    let at_steps : ℕ → List ℕ = λ n. unlinked_steps plan labels n steps ++ at_end (n + size_of_steps plan steps) in
+    let at_home : ℕ → List ℕ = λ n. unlinked_pieces labels n home ++ at_steps (n + size_of_pieces home) in
+    then_more c0 c1 c5 (unlinked_pieces labels (length c0) entry) (size_of_pieces entry) at_home e1 (length_unlinked labels (length c0) entry)
+    (then_more c1 c2 c5 (unlinked_pieces labels (length c1) home) (size_of_pieces home) at_steps e2 (length_unlinked labels (length c1) home)
+    (then_more c2 c3 c5 (unlinked_steps plan labels (length c2) steps) (size_of_steps plan steps) at_end e3 (length_steps plan labels (length c2) steps)
+    (then_more c3 c4 c5 (unlinked_pieces labels (length c3) end) (size_of_pieces end) at_return e4 (length_unlinked labels (length c3) end) e5)))

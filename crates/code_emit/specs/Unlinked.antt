@@ -1,14 +1,20 @@
 -- The bytes of code before it is linked: the fields that the linker fills hold 0, and each symbol stands at 0.
-use Rattle.std.specs.Prelude.{ℕ, ◌+◌, true, pos, List, [], ◌∷◌, ◌++◌, slice_index_or, slice_set}
+use Rattle.std.specs.Prelude.{ℕ, ◌+◌, true, false, pos, Some, List, [], ◌∷◌, ◌++◌, slice_index_or, slice_set}
 use Rattle.x86_forms.specs.declared.instr.Instr.TheVariants.{CallRel}
 use Rattle.x86_forms.specs.Spelling.{spelling}
+use Rattle.fat_ir.specs.declared.program.FatFun.{FatFun}
 use Rattle.fat_ir.specs.declared.step.FatStep.{FatStep}
 use Rattle.fat_ir.specs.declared.step.FatStep.TheVariants as s
+use Rattle.fat_ir.specs.Functions.{Parameter}
 use Rattle.step_code.specs.declared.pieces.Piece.{Piece}
 use Rattle.step_code.specs.declared.pieces.Piece.TheVariants.{Plain, LoadSlot, KeepSlot, LoadBounds, KeepBounds, LoadCell, Read, Write, LoadPair, KeepPair, Go, GoIf, Hop, Serve, CallTo}
 use Rattle.step_code.specs.Pieces.{instr_of}
-use Rattle.step_code.specs.Steps.{Plan, lower}
-use Rattle.step_code.specs.Bytes.{size_of_piece, size_of_pieces}
+use Rattle.step_code.specs.Steps.{Plan, lower, load_args, end_pieces}
+use Rattle.step_code.specs.Entry.{inner_entry, inner_return}
+use Rattle.step_code.specs.Functions.{plain}
+use Rattle.step_code.specs.Homing.{homing}
+use Rattle.step_code.specs.Bytes.{size_of_piece, size_of_pieces, size_of_steps}
+use Rattle.code_emit.specs.declared.fields.Field.{Field}
 
 -- a call goes on behind itself until the linker fills its field
 abbrev pub blank : Piece → Piece
@@ -51,3 +57,44 @@ noted at step labels = labels
 abbrev pub labels_noted : Plan → (at : ℕ) → List FatStep → List ℕ → List ℕ
 labels_noted p at [] labels = labels
 labels_noted p at (step ∷ steps) labels = labels_noted p (at + size_of_pieces (lower p step)) steps (noted at step labels)
+
+-- ---- a whole function
+
+module _ (p : Plan) (f : FatFun) (parameters : List Parameter) (units : ℕ) where
+  -- where its parts stand, from the offset of its inner entry on
+  abbrev pub homing_at : ℕ → ℕ
+  homing_at at = at + size_of_pieces (plain (inner_entry f.frame units))
+
+  abbrev pub steps_at : ℕ → ℕ
+  steps_at at = homing_at at + size_of_pieces (homing p f.private parameters)
+
+  abbrev pub end_at : ℕ → ℕ
+  end_at at = steps_at at + size_of_steps p f.steps
+
+  abbrev pub return_at : ℕ → ℕ
+  return_at at = end_at at + size_of_pieces end_pieces
+
+  -- its bytes
+  abbrev pub unlinked_function : (labels : List ℕ) → (at : ℕ) → List ℕ
+  unlinked_function labels at =
+      unlinked_pieces labels at (plain (inner_entry f.frame units))
+      ++ (unlinked_pieces labels (homing_at at) (homing p f.private parameters)
+      ++ (unlinked_steps p labels (steps_at at) f.steps
+      ++ (unlinked_pieces labels (end_at at) end_pieces
+      ++ unlinked_pieces labels (return_at at) (plain (inner_return f.frame units)))))
+
+  -- the offsets of its labels noted in a list, that of the end with them
+  abbrev pub function_labels : (at : ℕ) → List ℕ → List ℕ
+  function_labels at labels = slice_set (labels_noted p (steps_at at) f.steps labels) p.exit (return_at at)
+
+-- ---- fields that the linker fills
+
+-- the field of a call, behind its prefix and opcode; and that of the move of a symbol's address, behind three bytes
+abbrev pub fields_of_step : Plan → (at : ℕ) → FatStep → List Field
+fields_of_step p at (s.Call symbol args to bounds) = record { offset = at + size_of_pieces (load_args p args 0 0) + 2; symbol = symbol; relative = true } ∷ []
+fields_of_step p at (s.Place to bounds (Some symbol) offset size) = record { offset = at + 3; symbol = symbol; relative = false } ∷ []
+fields_of_step p at step = []
+
+abbrev pub fields_of_steps : Plan → (at : ℕ) → List FatStep → List Field
+fields_of_steps p at [] = []
+fields_of_steps p at (step ∷ steps) = fields_of_step p at step ++ fields_of_steps p (at + size_of_pieces (lower p step)) steps

@@ -3,13 +3,15 @@
 ghost use Rattle.std.specs.Prelude.{◌≡◌, ◌+◌, ◌++◌, length, IfOk, OnOk};
 ghost use Rattle.step_code.specs.Steps.{lower};
 ghost use Rattle.step_code.specs.Bytes.{size_of_pieces, size_of_steps};
-ghost use Rattle.code_emit.specs.Plans.{plan_of};
+ghost use Rattle.code_emit.specs.Plans.{plan_of, parameters_of};
 ghost use Rattle.code_emit.specs.Unlinked as u;
 
 use crate::bytes::{add, put_pieces, size_of_all};
+use crate::entry::{end, inner_entry, inner_return};
+use crate::homing::{Parameter, put_homing};
 use crate::plan::FunctionPlan;
 use crate::steps::lower_step;
-use fat_ir::FatStep;
+use fat_ir::{FatFun, FatStep};
 use mx_base::OutOfMemory;
 use std::alloc::Global;
 use step_code::Piece;
@@ -35,7 +37,7 @@ fn pieces_of(alloc: Global, p: &FunctionPlan, step: &FatStep) -> Result<Vec<Piec
 }
 
 /// How many bytes a step has.
-fn size_of_step(alloc: Global, p: &FunctionPlan, step: &FatStep) -> Result<u32, OutOfMemory>
+pub fn size_of_step(alloc: Global, p: &FunctionPlan, step: &FatStep) -> Result<u32, OutOfMemory>
     ensures { IfOk result (λ n. n ≡ size_of_pieces (lower (plan_of p.now) step.now)) }
 {
     let pieces = pieces_of(alloc, p, step)?;
@@ -97,4 +99,30 @@ fn put_step(
 {
     let pieces = pieces_of(alloc, p, step)?;
     put_pieces(code, labels, pieces.as_slice())
+}
+
+/// The bytes of a function come behind those that are there: the inner entry, the homing of its arguments, its steps, its end and its
+/// return. `units` is how many words its frame on the control stack has, and `labels` has the offset of each label, the end's too.
+///
+/// # Errors
+///
+/// `OutOfMemory`: no memory for pieces or bytes, or a number that no instruction has room for.
+pub fn put_function(
+    alloc: Global,
+    code: &mut Vec<u8>,
+    labels: &[u32],
+    p: &FunctionPlan,
+    f: &FatFun,
+    parameters: &[Parameter],
+    units: u32,
+) -> Result<(), OutOfMemory>
+    ensures { OnOk result (code.new.items ≡ code.old.items ++ u.unlinked_function (plan_of p.now) f.now (parameters_of parameters.now) units labels.now (length code.old.items)) }
+{
+    put_pieces(code, labels, &inner_entry(f.frame, units))?;
+    let mut home = Vec::new(alloc);
+    put_homing(&mut home, p, f.private, parameters)?;
+    put_pieces(code, labels, home.as_slice())?;
+    put_steps(alloc, code, labels, p, f.steps.as_slice())?;
+    put_pieces(code, labels, &end())?;
+    put_pieces(code, labels, &inner_return(f.frame, units))
 }

@@ -4,6 +4,7 @@
 mod arguments;
 mod bytes;
 mod entry;
+mod fields;
 mod function;
 mod homes;
 mod homing;
@@ -13,7 +14,8 @@ mod plan;
 mod steps;
 
 pub use entry::{end, inner_entry, inner_return};
-pub use function::{note_labels, put_steps};
+pub use fields::{Field, note_fields};
+pub use function::{note_labels, put_function, put_steps};
 pub use homing::{Parameter, put_homing};
 pub use plan::FunctionPlan;
 pub use steps::lower_step;
