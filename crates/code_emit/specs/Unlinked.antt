@@ -91,7 +91,8 @@ module _ (p : Plan) (f : FatFun) (parameters : List Parameter) (units : ℕ) whe
 
 -- the field of a call, behind its prefix and opcode; and that of the move of a symbol's address, behind three bytes
 abbrev pub fields_of_step : Plan → (at : ℕ) → FatStep → List Field
-fields_of_step p at (s.Call symbol args to bounds) = record { offset = at + size_of_pieces (load_args p args 0 0) + 2; symbol = symbol; relative = true } ∷ []
+fields_of_step p at (s.Call symbol args to bounds) =
+    record { offset = at + size_of_pieces (load_args p args 0 0) + 2; symbol = symbol; relative = true } ∷ []
 fields_of_step p at (s.Place to bounds (Some symbol) offset size) = record { offset = at + 3; symbol = symbol; relative = false } ∷ []
 fields_of_step p at step = []
 

@@ -34,7 +34,8 @@ fn call_field(
     args: &[(u32, Option<u32>)],
     at: u32,
 ) -> Result<(), OutOfMemory>
-    ensures { OnOk result (fields.new.items ≡ fields.old.items ++ (record { offset = at + size_of_pieces (load (plan_of p.now) args.now 0 0) + 2; symbol = symbol; relative = true } ∷ [])) }
+    ensures { OnOk result (fields.new.items ≡ fields.old.items
+        ++ (record { offset = at + size_of_pieces (load (plan_of p.now) args.now 0 0) + 2; symbol = symbol; relative = true } ∷ [])) }
 {
     let mut pieces = Vec::new(alloc);
     load_args(&mut pieces, p, args)?;

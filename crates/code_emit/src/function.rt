@@ -1,6 +1,6 @@
 //! The steps of a function as bytes, in two passes: where labels stand, and the bytes.
 
-ghost use Rattle.std.specs.Prelude.{◌≡◌, ◌+◌, ◌++◌, length, IfOk, OnOk};
+ghost use Rattle.std.specs.Prelude.{◌≡◌, ◌+◌, ◌++◌, length, slice_set, IfOk, OnOk};
 ghost use Rattle.step_code.specs.Steps.{lower};
 ghost use Rattle.step_code.specs.Bytes.{size_of_pieces, size_of_steps};
 ghost use Rattle.code_emit.specs.Plans.{plan_of, parameters_of};
@@ -21,9 +21,15 @@ fn note(labels: &mut Vec<u32>, step: &FatStep, at: u32)
     ensures { labels.new.items ≡ u.noted at step.now labels.old.items }
 {
     if let FatStep::Label { n } = step {
-        if let Some(slot) = labels.get_mut(*n as usize) {
-            *slot = at;
-        }
+        set_label(labels, *n, at);
+    }
+}
+
+fn set_label(labels: &mut Vec<u32>, label: u32, at: u32)
+    ensures { labels.new.items ≡ slice_set labels.old.items label at }
+{
+    if let Some(slot) = labels.get_mut(label as usize) {
+        *slot = at;
     }
 }
 
@@ -79,7 +85,8 @@ pub fn put_steps(
     p: &FunctionPlan,
     steps: &[FatStep],
 ) -> Result<(), OutOfMemory>
-    ensures { OnOk result (code.new.items ≡ code.old.items ++ u.unlinked_steps (plan_of p.now) labels.now (length code.old.items) steps.now) }
+    ensures { OnOk result (code.new.items
+        ≡ code.old.items ++ u.unlinked_steps (plan_of p.now) labels.now (length code.old.items) steps.now) }
 {
     'all: for step in steps {
         put_step(alloc, code, labels, p, step)?;
@@ -95,10 +102,38 @@ fn put_step(
     p: &FunctionPlan,
     step: &FatStep,
 ) -> Result<(), OutOfMemory>
-    ensures { OnOk result (code.new.items ≡ code.old.items ++ u.unlinked_pieces labels.now (length code.old.items) (lower (plan_of p.now) step.now)) }
+    ensures { OnOk result (code.new.items
+        ≡ code.old.items ++ u.unlinked_pieces labels.now (length code.old.items) (lower (plan_of p.now) step.now)) }
 {
     let pieces = pieces_of(alloc, p, step)?;
     put_pieces(code, labels, pieces.as_slice())
+}
+
+/// Notes the offset of each label of a function that begins at `at`, that of its end with them. `labels` has room for each label.
+///
+/// # Errors
+///
+/// `OutOfMemory`: no memory for pieces, or a number that no instruction has room for.
+pub fn place_labels(
+    alloc: Global,
+    labels: &mut Vec<u32>,
+    p: &FunctionPlan,
+    f: &FatFun,
+    parameters: &[Parameter],
+    units: u32,
+    at: u32,
+) -> Result<(), OutOfMemory>
+    ensures { OnOk result (labels.new.items
+        ≡ u.function_labels (plan_of p.now) f.now (parameters_of parameters.now) units at labels.old.items) }
+{
+    let mut home = Vec::new(alloc);
+    put_homing(&mut home, p, f.private, parameters)?;
+    let homing = add(at, size_of_all(&inner_entry(f.frame, units))?)?;
+    let first = add(homing, size_of_all(home.as_slice())?)?;
+    let last = note_labels(alloc, labels, p, f.steps.as_slice(), first)?;
+    let exit = add(last, size_of_all(&end())?)?;
+    set_label(labels, p.exit, exit);
+    Ok(())
 }
 
 /// The bytes of a function come behind those that are there: the inner entry, the homing of its arguments, its steps, its end and its
@@ -116,7 +151,8 @@ pub fn put_function(
     parameters: &[Parameter],
     units: u32,
 ) -> Result<(), OutOfMemory>
-    ensures { OnOk result (code.new.items ≡ code.old.items ++ u.unlinked_function (plan_of p.now) f.now (parameters_of parameters.now) units labels.now (length code.old.items)) }
+    ensures { OnOk result (code.new.items ≡ code.old.items
+        ++ u.unlinked_function (plan_of p.now) f.now (parameters_of parameters.now) units labels.now (length code.old.items)) }
 {
     put_pieces(code, labels, &inner_entry(f.frame, units))?;
     let mut home = Vec::new(alloc);

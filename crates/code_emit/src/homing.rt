@@ -52,7 +52,8 @@ fn home_argument(
     b: u8,
     pointer: bool,
 ) -> Result<(), OutOfMemory>
-    ensures { (rest : List Piece) → OnOk result (out.new.items ++ rest ≡ out.old.items ++ spec.home_argument (plan_of p.now) x i b pointer rest) }
+    ensures { (rest : List Piece) → OnOk result (out.new.items ++ rest
+        ≡ out.old.items ++ spec.home_argument (plan_of p.now) x i b pointer rest) }
 {
     let number = put(home(p, x), arg_reg(i));
     if pointer {
@@ -73,7 +74,8 @@ fn home_arguments(
     b: u8,
     parameters: &[Parameter],
 ) -> Result<(), OutOfMemory>
-    ensures { (rest : List Piece) → OnOk result (out.new.items ++ rest ≡ out.old.items ++ spec.home_arguments (plan_of p.now) first temp i b (parameters_of parameters.now) rest) }
+    ensures { (rest : List Piece) → OnOk result (out.new.items ++ rest
+        ≡ out.old.items ++ spec.home_arguments (plan_of p.now) first temp i b (parameters_of parameters.now) rest) }
 {
     match parameters.split_first() {
         None => Ok(()),
@@ -113,7 +115,8 @@ fn taken(parameters: &[Parameter]) -> Result<u32, OutOfMemory>
 
 /// A private variable begins as 0, from rax, or with full bounds.
 fn unset_home(out: &mut Vec<Piece>, p: &FunctionPlan, x: u32) -> Result<(), OutOfMemory>
-    ensures { (rest : List Piece) → OnOk result (out.new.items ++ rest ≡ out.old.items ++ spec.unset_home ((plan_of p.now).is_bounds x) ((plan_of p.now).home x) rest) }
+    ensures { (rest : List Piece) → OnOk result (out.new.items ++ rest
+        ≡ out.old.items ++ spec.unset_home ((plan_of p.now).is_bounds x) ((plan_of p.now).home x) rest) }
 {
     unset(out, is_bounds(p, x), home(p, x))
 }

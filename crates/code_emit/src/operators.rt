@@ -57,7 +57,8 @@ fn load_two(
     a: u32,
     b: u32,
 ) -> Result<(), OutOfMemory>
-    ensures { (rest : List Piece) → OnOk result (out.new.items ++ rest ≡ out.old.items ++ spec.load_two (plan_of p.now) words kind a b rest) }
+    ensures { (rest : List Piece) → OnOk result (out.new.items ++ rest
+        ≡ out.old.items ++ spec.load_two (plan_of p.now) words kind a b rest) }
 {
     if words {
         append(out, &[get(RAX, home(p, a))])?;

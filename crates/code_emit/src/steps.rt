@@ -252,7 +252,10 @@ fn lower_judge(
     size: u32,
     bounds: u32,
 ) -> Result<(), OutOfMemory>
-    ensures { OnOk result (out.new.items ≡ out.old.items ++ (spec.get 0 ((plan_of p.now).home value) ∷ spec.get_bounds 0 ((plan_of p.now).home bounds) ∷ piece.Plain (i.Bndcl 0 (x.in_reg 0)) ∷ piece.Plain (i.Bndcu 0 (rm.Mem (x.based 0 (pos size -ℤ pos 1)))) ∷ [])) }
+    ensures { OnOk result (out.new.items
+        ≡ out.old.items ++ (spec.get 0 ((plan_of p.now).home value) ∷ spec.get_bounds 0 ((plan_of p.now).home bounds)
+        ∷ piece.Plain (i.Bndcl 0 (x.in_reg 0))
+        ∷ piece.Plain (i.Bndcu 0 (rm.Mem (x.based 0 (pos size -ℤ pos 1)))) ∷ [])) }
 {
     let last = to_last(u64::from(size))?;
     append(
@@ -289,7 +292,9 @@ fn lower_call(
     to: Option<u32>,
     bounds: Option<u32>,
 ) -> Result<(), OutOfMemory>
-    ensures { OnOk result (out.new.items ≡ out.old.items ++ (spec.load_args (plan_of p.now) args.now 0 0 ++ (piece.CallTo symbol ∷ spec.put_number_at (plan_of p.now) to (spec.put_pair_at (plan_of p.now) bounds)))) }
+    ensures { OnOk result (out.new.items
+        ≡ out.old.items ++ (spec.load_args (plan_of p.now) args.now 0 0
+        ++ (piece.CallTo symbol ∷ spec.put_number_at (plan_of p.now) to (spec.put_pair_at (plan_of p.now) bounds)))) }
 {
     load_args(out, p, args)?;
     append(out, &[Piece::CallTo { symbol }])?;
