@@ -1,2 +1,9 @@
 pub mod NamedLemmas
 pub mod Steps
+pub mod Passing
+pub mod Named
+pub mod Standing
+pub mod Members
+pub mod Reaching
+pub mod Fitted
+pub mod Filing

@@ -96,14 +96,15 @@ far_fixes os plan = numbered (λ object o. numbered (far_fix os plan object o) 0
 
 -- ---- the link
 
+abbrev pub faults_of_names : List Object → List LinkFault
+faults_of_names os = twice os ++ faults_of_imports os (definitions os) (signed_imports os) ++ no_main os (definitions os)
+
+abbrev pub faults_of_sizes : List Object → List LinkFault
+faults_of_sizes os = too_large os (plan_of os) (ends_of os) ++ far_fixes os (plan_of os)
+
 -- all faults, in order
 abbrev pub faults : List Object → List LinkFault
-faults os =
-    twice os
-    ++ faults_of_imports os (definitions os) (signed_imports os)
-    ++ no_main os (definitions os)
-    ++ too_large os (plan_of os) (ends_of os)
-    ++ far_fixes os (plan_of os)
+faults os = faults_of_names os ++ faults_of_sizes os
 
 abbrev pub unless : Image → List LinkFault → Result Image LinkFault
 unless image [] = Ok image

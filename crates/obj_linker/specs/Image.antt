@@ -83,9 +83,12 @@ files os = map (λ o. o.file) (filter has_file os)
 abbrev pub place_at : (code file : ℕ) → Spot3 → Spot4
 place_at code file p = record { at = code + p.offset; file = file; line = p.line; col = p.col; kind = p.kind; size = p.size }
 
+abbrev pub places_in : Plan → ℕ → Object → (file : ℕ) → List Spot4
+places_in plan object o file = if has_file o then map (place_at (spot_of plan object).code file) o.places else []
+
 -- the places of an object, whose file has the number of files before it
 abbrev pub places_of : List Object → Plan → ℕ → Object → List Spot4
-places_of os plan object o = if has_file o then map (place_at (spot_of plan object).code (length (files (take object os)))) o.places else []
+places_of os plan object o = places_in plan object o (length (files (take object os)))
 
 abbrev pub places : List Object → Plan → List Spot4
 places os plan = numbered (places_of os plan) 0 os

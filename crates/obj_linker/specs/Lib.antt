@@ -5,3 +5,6 @@ pub mod Image
 pub mod Faults
 pub mod Told
 pub mod Examples
+pub mod Limits
+pub mod Fitting
+pub mod Gating

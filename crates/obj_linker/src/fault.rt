@@ -1,5 +1,9 @@
 //! Why objects make no image.
 
+ghost use Rattle.std.specs.Prelude.{◌≡◌};
+ghost use Rattle.obj_linker.specs.declared.fault.LinkFault.TheVariants.{OutOfMemory};
+
+use mx_base::OutOfMemory;
 use obj_file::Text;
 
 /// Why objects make no image.
@@ -27,4 +31,12 @@ pub enum LinkFault {
     FarFix { object: u32, fix: u32 },
     /// Memory of the host is not to be had.
     OutOfMemory,
+}
+
+impl From<OutOfMemory> for LinkFault {
+    ghost from_gives = { λ _ e. e ≡ OutOfMemory };
+
+    fn from(_error: OutOfMemory) -> LinkFault {
+        LinkFault::OutOfMemory
+    }
 }

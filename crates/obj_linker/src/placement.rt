@@ -1,11 +1,12 @@
 //! Where the parts of objects stand.
 
-ghost use Rattle.std.specs.Prelude.{◌≡◌, ◌+◌, ◌*◌, ◌^◌, ◌<◌, ◌≤◌, length, IfOk};
+ghost use Rattle.std.specs.Prelude.{◌≡◌, ◌+◌, ◌-◌, ◌^◌, ◌<◌, ◌≤◌, length, IfOk};
 ghost use Rattle.std.specs.List.{All};
 ghost use Rattle.obj_linker.specs.Placement as spec;
+ghost use Rattle.obj_linker.specs.Limits.{HasSmallParts, AreLow};
 
 use crate::parts::{Ends, Spot};
-use crate::plan::Spots;
+use crate::plan::{Places, Spots};
 use mx_base::OutOfMemory;
 use obj_file::Object;
 use std::alloc::Global;
@@ -54,4 +55,46 @@ fn ends_with(spot: Spot, ends: Ends, o: &Object) -> Ends
             stored,
         }
     }
+}
+
+/// Where no part stands yet.
+const STARTS: Ends = Ends {
+    code: 0x0200_0000,
+    legacy: 0x1200_0000,
+    stored: 0x2000_0000,
+};
+
+/// Where all parts stand.
+pub fn places(alloc: Global, objects: &[Object]) -> Result<Places, OutOfMemory>
+    requires few { length objects.now < 2 ^ 32 }
+    requires small { All HasSmallParts objects.now }
+    ensures spots { IfOk result (λ p. p.spots ≡ spec.spots objects.now) }
+    ensures ends { IfOk result (λ p. p.ends ≡ spec.ends_of objects.now) }
+    ensures small { IfOk result (λ p. AreLow p.ends) }
+{
+    let mut items = Vec::new(alloc);
+    let mut ends = STARTS;
+    'all: for k in 0..objects.len() {
+        let object = &objects[k];
+        let spot = spot_after(ends, object);
+        items.push(spot)?;
+        ends = ends_with(spot, ends, object);
+    }
+    Ok(Places {
+        spots: Spots::from_vec(items),
+        ends,
+    })
+}
+
+/// The size of the instrumented code with its stubs.
+pub fn code_size(stubs: u64, ends: u64, first: u64) -> u64
+    requires { (stubs < 2 ^ 53) × (first < 2 ^ 63) }
+    ensures { result ≡ spec.code_end stubs ends first - spec.starts.code }
+{
+    let end = if stubs == 0 {
+        ends
+    } else {
+        first + 128 * stubs
+    };
+    end.saturating_sub(STARTS.code)
 }

@@ -1,7 +1,9 @@
 //! Where everything stands.
 
+ghost use Rattle.std.specs.Prelude.{◌≡◌};
+
 use crate::names::Names;
-use crate::parts::Spot;
+use crate::parts::{Ends, Spot};
 use std::marker::Model;
 
 /// The addresses of objects' parts, in order of the objects.
@@ -31,4 +33,32 @@ pub struct Plan {
     pub spots: Spots,
     /// The address of the first stub.
     pub stubs_at: u64,
+}
+
+impl Spots {
+    pub fn from_vec(items: Vec<Spot>) -> Spots
+        ensures { result ≡ items.items }
+    {
+        Spots { items }
+    }
+
+    pub fn as_slice(&self) -> &[Spot]
+        ensures { result.now ≡ self.now }
+    {
+        self.items.as_slice()
+    }
+}
+
+/// The addresses of all parts, and those after the last ones.
+#[derive(Drop)]
+pub struct Places {
+    pub spots: Spots,
+    pub ends: Ends,
+}
+
+/// A plan, and the addresses after the last parts.
+#[derive(Drop)]
+pub struct Planned {
+    pub plan: Plan,
+    pub ends: Ends,
 }

@@ -48,6 +48,15 @@ pub fn name_at(objects: &[Object], id: SymbolId) -> &[u8]
     }
 }
 
+pub fn name_text(objects: &[Object], id: SymbolId) -> &str
+    ensures { result.now ≡ spec.name_at objects.now id }
+{
+    match symbol_at(objects, id) {
+        Some(symbol) => symbol.name.as_str(),
+        None => "",
+    }
+}
+
 pub fn sig_at(objects: &[Object], id: SymbolId) -> &[u8]
     ensures { result.now ≡ spec.sig_at objects.now id }
 {
@@ -55,6 +64,12 @@ pub fn sig_at(objects: &[Object], id: SymbolId) -> &[u8]
         Some(symbol) => symbol.sig.as_str().as_bytes(),
         None => &[],
     }
+}
+
+pub fn is_import(objects: &[Object], id: SymbolId) -> bool
+    ensures { result ≡ spec.is_import objects.now id }
+{
+    part_at(objects, id) == 0
 }
 
 fn is_legacy_at(objects: &[Object], id: SymbolId) -> bool

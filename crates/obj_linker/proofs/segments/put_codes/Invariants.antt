@@ -1,0 +1,7 @@
+use Rattle.std.proofs.Common.{◌≡◌, ◌++◌, take}
+use Rattle.obj_linker.specs.Symbols.{numbered}
+use Rattle.obj_linker.specs.Image.{code_segment}
+use Rattle.obj_linker.proofs.segments.put_codes.Given as goal
+
+abbrev pub invariant-all : goal.invariant-all
+invariant-all l = l.out.items ≡ l.fn.out.items ++ numbered (code_segment l.objects l.plan) 0 (take l.object l.objects)
