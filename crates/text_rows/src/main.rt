@@ -1,8 +1,9 @@
-//! Prints what the generator, the disassembler and the reports of stops write, to be compared with the text that is wanted.
+//! Prints what the generator, the disassembler, the reports of stops and the assembler write, to be compared with the text that is wanted.
 #![tactic(auto)]
 
 mod code;
 mod stops;
+mod texts;
 
 use code::CODE;
 use disasm::all;
@@ -10,12 +11,14 @@ use mx_base::OutOfMemory;
 use mx_gen::{legacy, program};
 use std::io;
 use stops::print_stops;
+use texts::print_texts;
 
 fn main(rt: HostRuntime) -> io::Result<()> {
     print_text(&rt, program(rt.alloc(), 1))?;
     print_text(&rt, legacy(rt.alloc()))?;
     print_stops(&rt)?;
-    print_text(&rt, all(rt.alloc(), CODE))
+    print_text(&rt, all(rt.alloc(), CODE))?;
+    print_texts(&rt)
 }
 
 fn print_text(rt: &impl Print, text: Result<Vec<u8>, OutOfMemory>) -> io::Result<()> {
