@@ -1,2 +1,3 @@
 pub mod StructLemmas
 pub mod PartLemmas
+pub mod ScalarLemmas

@@ -4,6 +4,7 @@ ghost use Rattle.std.specs.Prelude.{◌≡◌, ◌++◌, ◌∷◌, [], map, len
 ghost use Rattle.c_types.specs.Types.{type_at, IsIn};
 ghost use Rattle.steps_structs.specs.Structs.{AreKnown, declared, structs_known, tags_known, names_known};
 
+use crate::scalars::scalars_laid;
 use crate::sizes::laid_out;
 use c_check_rules::copy_name;
 use c_tree::{Decl, Name};
@@ -11,14 +12,17 @@ use c_types::{Layout, TypeId, TypeTable};
 use mx_base::OutOfMemory;
 use sqlite_items::Items;
 use std::alloc::Global;
+use steps_facts::ScalarAt;
 
-/// A struct that is declared: its tag, the names and types of its members, and its size and alignment.
+/// A struct that is declared: its tag, the names and types of its members, its size and alignment, and its scalars in order of their
+/// offsets, if they are at most 64. A struct of more is never copied, and a variable of more never initialised.
 #[derive(Drop)]
 pub struct KnownStruct {
     pub tag: Name,
     pub names: Items<Name>,
     pub members: Items<TypeId>,
     pub layout: Layout,
+    pub scalars: Option<Items<ScalarAt>>,
 }
 
 /// The names of members.
@@ -47,6 +51,7 @@ fn known_struct(
     ensures { IfOk result (λ k. k ≡ declared types.now structs.now tag.now decls.now members.now) }
 {
     let layout = laid_out(types, structs, members)?;
+    let scalars = scalars_laid(alloc, types, structs, members)?;
     let tag = copy_name(alloc, tag)?;
     let names = names_of(alloc, decls)?;
     let members = Items::from_slice(alloc, members)?;
@@ -55,6 +60,7 @@ fn known_struct(
         names,
         members,
         layout,
+        scalars,
     })
 }
 
