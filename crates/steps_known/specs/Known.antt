@@ -2,7 +2,8 @@
 use Rattle.std.specs.Prelude.{◌≡◌, ℕ, List, map, All}
 use Rattle.mx_base.specs.declared.settings.Flags.{Flags}
 use Rattle.c_types.specs.declared.shape.TypeId.{TypeId}
-use Rattle.c_types.specs.Types.{Types, type_at, IsIn}
+use Rattle.c_types.specs.declared.shape.Shape.{Shape}
+use Rattle.c_types.specs.Types.{Types, type_at, built, IsIn}
 use Rattle.c_check_rules.specs.declared.predeclared.Bind.{Bind}
 use Rattle.place_plan.specs.declared.plans.Spot.{Spot}
 use Rattle.place_plan.specs.declared.plans.FramePlan.{FramePlan}
@@ -33,7 +34,7 @@ pub record KnownAt : Type 0 where
   pub flags : Flags
   pub variables : List TypeId
   pub spots : List Spot
-  pub result : TypeId
+  pub result : Shape
   pub standings : List Standing
 
 -- what is around, to the elaboration
@@ -48,7 +49,7 @@ around_of k = record {
   flags = k.flags;
   variables = map (type_at k.table) k.variables;
   stands = map stand_of k.spots;
-  result = type_at k.table k.result;
+  result = built (type_at k.table) k.result;
 }
 
 -- all numbers of types are in the table, and structs and functions are kept with what is asked of them
@@ -57,5 +58,4 @@ pub record IsKnown (k : KnownAt) : Type 0 where
   pub declared : All (IsIn k.table) k.declared
   pub structs : AreKnown k.table k.structs
   pub functions : AreSorted k.table k.functions
-  pub result : IsIn k.table k.result
   pub standings : k.standings ≡ standings_from (structs_known k.table k.structs) 0 (map (type_at k.table) k.variables) (map stand_of k.spots)
