@@ -28,6 +28,7 @@ use steps_structs::{
 /// functions that are declared so far; the symbols of globals, functions and literals, and where each literal stands; the frames;
 /// the flags; and of the function its variables, where they stand, also by private values, and the type of what it gives, which is
 /// `void` outside of functions.
+#[derive(Drop)]
 pub struct Known<'a> {
     pub types: &'a TypeTable,
     pub kinds: &'a [TypeId],

@@ -22,6 +22,7 @@ use steps_structs::KnownStruct;
 
 /// A checked and planned source: its tree, what is said of it, its plan, the numbers of its symbols, where each literal stands behind
 /// their symbol, in bytes, and the flags by which bounds are narrowed.
+#[derive(Clone, Copy)]
 pub struct PlannedSource<'a> {
     pub tree: &'a Tree,
     pub checked: &'a Checked,
@@ -33,6 +34,7 @@ pub struct PlannedSource<'a> {
 
 /// The variables of a function: the types of its parameters and locals, where they stand, also by private values, and the type of what
 /// it gives.
+#[derive(Clone, Copy)]
 pub struct FunctionVariables<'a> {
     pub types: &'a [TypeId],
     pub spots: &'a [Spot],
