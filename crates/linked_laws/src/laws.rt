@@ -1,0 +1,13 @@
+//! Laws of linked images. Each function does nothing, and its contract is the law.
+
+ghost use Rattle.std.specs.Prelude.{◌≡◌, ℕ, true, Some, List, slice_get};
+ghost use Rattle.obj_file.specs.declared.object.Object.{Object};
+ghost use Rattle.obj_linker.specs.Placement.{plan_of, spot_of};
+ghost use Rattle.linked_laws.specs.Alike.{AreAlike};
+
+/// Where data and legacy code stand doesn't depend on how large instrumented code is.
+pub fn places_stay_where_instrumented_code_grows()
+    ensures stored { (os ps : List Object) → AreAlike os ps → (k : ℕ) → (spot_of (plan_of ps) k).stored ≡ (spot_of (plan_of os) k).stored }
+    ensures legacy { (os ps : List Object) → AreAlike os ps → (k : ℕ) (o : Object) → slice_get os k ≡ Some o → o.legacy ≡ true
+        → (spot_of (plan_of ps) k).code ≡ (spot_of (plan_of os) k).code }
+{}

@@ -1,0 +1,7 @@
+//! What the image of linked objects is. The linker's definition says how an image is made; the laws here say what holds of it, in the
+//! words of the layers above. The definitions stand in specs/; the functions here do nothing, and their contracts are the laws.
+#![tactic(auto)]
+
+mod laws;
+
+pub use laws::places_stay_where_instrumented_code_grows;
