@@ -2,12 +2,22 @@
 
 ghost use Rattle.std.specs.Prelude.{◌≡◌, ℕ, true, Some, List, slice_get};
 ghost use Rattle.obj_file.specs.declared.object.Object.{Object};
+ghost use Rattle.obj_file.specs.declared.image.Image.{Image};
+ghost use Rattle.obj_file.specs.Image.{IsImage};
 ghost use Rattle.obj_linker.specs.Placement.{plan_of, spot_of};
 ghost use Rattle.linked_laws.specs.Alike.{AreAlike};
+ghost use Rattle.linked_laws.specs.Linked.{AreLinked};
+
+/// The image of linked objects keeps all rules of images: segments are in order and apart, each within one region of code or data, files
+/// have names, and places stand in order in instrumented code.
+pub fn linked_objects_make_an_image()
+    ensures { (os : List Object) (v : Image) → AreLinked os v → IsImage v }
+{}
 
 /// Where data and legacy code stand doesn't depend on how large instrumented code is.
 pub fn places_stay_where_instrumented_code_grows()
-    ensures stored { (os ps : List Object) → AreAlike os ps → (k : ℕ) → (spot_of (plan_of ps) k).stored ≡ (spot_of (plan_of os) k).stored }
+    ensures stored { (os ps : List Object) → AreAlike os ps → (k : ℕ)
+        → (spot_of (plan_of ps) k).stored ≡ (spot_of (plan_of os) k).stored }
     ensures legacy { (os ps : List Object) → AreAlike os ps → (k : ℕ) (o : Object) → slice_get os k ≡ Some o → o.legacy ≡ true
         → (spot_of (plan_of ps) k).code ≡ (spot_of (plan_of os) k).code }
 {}

@@ -4,4 +4,4 @@
 
 mod laws;
 
-pub use laws::places_stay_where_instrumented_code_grows;
+pub use laws::{linked_objects_make_an_image, places_stay_where_instrumented_code_grows};
