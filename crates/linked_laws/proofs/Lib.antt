@@ -6,3 +6,4 @@ pub mod Segments
 pub mod Answer
 pub mod Files
 pub mod Formed
+pub mod Standing

@@ -6,12 +6,18 @@ ghost use Rattle.obj_file.specs.declared.image.Image.{Image};
 ghost use Rattle.obj_file.specs.Image.{IsImage};
 ghost use Rattle.obj_linker.specs.Placement.{plan_of, spot_of};
 ghost use Rattle.linked_laws.specs.Alike.{AreAlike};
-ghost use Rattle.linked_laws.specs.Linked.{AreLinked};
+ghost use Rattle.linked_laws.specs.Linked.{AreLinked, HaveParts, bytes_in};
 
 /// The image of linked objects keeps all rules of images: segments are in order and apart, each within one region of code or data, files
 /// have names, and places stand in order in instrumented code.
 pub fn linked_objects_make_an_image()
     ensures { (os : List Object) (v : Image) → AreLinked os v → IsImage v }
+{}
+
+/// In the image of linked objects each gate stands at its place, with the addresses that it knows, and each part of each object at its,
+/// with its fields filled.
+pub fn parts_stand_at_their_addresses()
+    ensures { (os : List Object) (v : Image) → AreLinked os v → HaveParts os (plan_of os) (bytes_in v) }
 {}
 
 /// Where data and legacy code stand doesn't depend on how large instrumented code is.

@@ -4,4 +4,7 @@
 
 mod laws;
 
-pub use laws::{linked_objects_make_an_image, places_stay_where_instrumented_code_grows};
+pub use laws::{
+    linked_objects_make_an_image, parts_stand_at_their_addresses,
+    places_stay_where_instrumented_code_grows,
+};
