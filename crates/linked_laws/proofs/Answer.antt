@@ -1,5 +1,5 @@
 -- What the answer of a link says of its objects: there is no fault, and the image is theirs.
-use Rattle.std.proofs.Common.{◌≡◌, refl, sym, ap, subst, ℕ, ◌+◌, ◌*◌, ◌-◌, ◌≤◌, ◌==◌, false, if◌then◌else◌, Ok, List, [], ◌∷◌, ◌++◌, length, slice_get, arith}
+use Rattle.std.proofs.Common.{◌≡◌, refl, sym, ap, subst, ℕ, ◌+◌, ◌*◌, ◌-◌, ◌<◌, ◌≤◌, ◌==◌, false, if◌then◌else◌, Ok, List, [], ◌∷◌, ◌++◌, length, slice_get, arith}
 use Rattle.std.specs.List.{AllByRecursion}
 use Rattle.std.proofs.lemmas.Bool.Decides.{nat_tests}
 use Rattle.std.proofs.lemmas.List.{length-map}
@@ -136,3 +136,17 @@ code_room os v l =
     in_order (ends_of os).code 0x1100_0000 (numbered (stub_segment mpx_gates os plan) 0 (ids plan.stubs))
     (stubs_there os plan (ids plan.stubs) (ends_of os).code (by_recursion (λ id. InLegacyCode (own_address os plan (meant_by os plan id))) (ids plan.stubs) p.reach.target) refl (code_grows os starts)
     (subst (λ n. code_end n (ends_of os).code plan.stubs_at - 0x0200_0000 ≤ 251_658_240) (sym same_stubs) s.code))
+
+-- a stub has its room behind the start of instrumented parts
+pub stub_room : (os : List Object) (v : Image) → AreLinked os v → (g : ℕ) → g < length (plan_of os).stubs
+    → (0x0200_0000 ≤ stub_at (plan_of os) g) × (stub_at (plan_of os) g + 128 ≤ 0x1100_0000)
+stub_room os v l g less =
+    let plan = plan_of os in
+    let ends : ℕ = (ends_of os).code in
+    let n : ℕ = length plan.stubs in
+    let up = aligned_gate ends in
+    let low = code_grows os starts in
+    let some : (n == 0) ≡ false = grind (arith, nat_tests) in
+    let far : (plan.stubs_at + 128 * n) - 0x0200_0000 ≤ 251_658_240 =
+    subst (λ b. (if b then ends else plan.stubs_at + 128 * n) - 0x0200_0000 ≤ 251_658_240) some (passed os v l).sizes.code in
+    (omega arith, omega (arith, far))

@@ -7,3 +7,4 @@ pub mod Answer
 pub mod Files
 pub mod Formed
 pub mod Standing
+pub mod Gated

@@ -1,11 +1,14 @@
 //! Laws of linked images. Each function does nothing, and its contract is the law.
 
-ghost use Rattle.std.specs.Prelude.{◌≡◌, ℕ, true, Some, List, slice_get};
+ghost use Rattle.std.specs.Prelude.{◌≡◌, ℕ, Bool, true, Some, List, slice_get};
 ghost use Rattle.obj_file.specs.declared.object.Object.{Object};
 ghost use Rattle.obj_file.specs.declared.image.Image.{Image};
 ghost use Rattle.obj_file.specs.Image.{IsImage};
+ghost use Rattle.obj_file.specs.Machine.{IsReader, Reading};
+ghost use Rattle.gate_laws.specs.Owed.{IsLinked};
 ghost use Rattle.obj_linker.specs.Placement.{plan_of, spot_of};
 ghost use Rattle.linked_laws.specs.Alike.{AreAlike};
+ghost use Rattle.linked_laws.specs.Linkage.{inner_of, linkage_of, stub_of};
 ghost use Rattle.linked_laws.specs.Linked.{AreLinked, HaveParts, bytes_in};
 
 /// The image of linked objects keeps all rules of images: segments are in order and apart, each within one region of code or data, files
@@ -18,6 +21,14 @@ pub fn linked_objects_make_an_image()
 /// with its fields filled.
 pub fn parts_stand_at_their_addresses()
     ensures { (os : List Object) (v : Image) → AreLinked os v → HaveParts os (plan_of os) (bytes_in v) }
+{}
+
+/// The gates of the image of linked objects stand where the laws of gates want them (`IsLinked` of `gate_laws`), by an exact reader of
+/// instructions: the landing, a stub for each legacy function that C calls, behind the start of instrumented parts, and an outer entry for
+/// each C function; and their signatures are within the limits.
+pub fn gates_stand_where_they_are_wanted()
+    ensures { (reads : List ℕ → Reading) → IsReader reads → (preserve : Bool) (os : List Object) (v : Image) → AreLinked os v
+        → IsLinked (linkage_of reads preserve os) (bytes_in v) (inner_of os) (stub_of os) }
 {}
 
 /// Where data and legacy code stand doesn't depend on how large instrumented code is.

@@ -5,6 +5,6 @@
 mod laws;
 
 pub use laws::{
-    linked_objects_make_an_image, parts_stand_at_their_addresses,
-    places_stay_where_instrumented_code_grows,
+    gates_stand_where_they_are_wanted, linked_objects_make_an_image,
+    parts_stand_at_their_addresses, places_stay_where_instrumented_code_grows,
 };
