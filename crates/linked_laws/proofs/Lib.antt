@@ -8,3 +8,6 @@ pub mod Files
 pub mod Formed
 pub mod Standing
 pub mod Gated
+pub mod Bytes
+pub mod Main
+pub mod Loaded

@@ -5,10 +5,11 @@ use Rattle.obj_file.specs.declared.object.Object.{Object}
 use Rattle.obj_file.specs.Machine.{Reading}
 use Rattle.legacy_calls.specs.Legacy.{Linkage}
 use Rattle.obj_linker.specs.declared.parts.SymbolId.{SymbolId}
-use Rattle.obj_linker.specs.Symbols.{ids, sig_at, symbol_id}
+use Rattle.obj_linker.specs.Symbols.{ids, place_of, sig_at, symbol_id}
 use Rattle.obj_linker.specs.Placement.{plan_of, own_address, stub_at}
 use Rattle.obj_linker.specs.Fixing.{meant_by}
 use Rattle.obj_linker.specs.Gating.{told_signature}
+use Rattle.obj_linker.specs.Image.{main_name}
 
 -- the symbol of a C function by its number, and the symbol by which C calls a legacy function, by the number of its stub
 abbrev pub function_at : List Object → ℕ → SymbolId
@@ -36,3 +37,7 @@ linkage_of reads preserve os = record {
   legacy = λ g. told_signature (sig_at os (called_at os g));
   begins = λ g. own_address os (plan_of os) (meant_by os (plan_of os) (called_at os g));
 }
+
+-- the number of `main`
+abbrev pub main_of : List Object → ℕ
+main_of os = place_of main_name (plan_of os).functions

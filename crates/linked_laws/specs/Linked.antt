@@ -1,5 +1,5 @@
 -- Objects that are linked.
-use Rattle.std.specs.Prelude.{◌≡◌, ℕ, Some, Ok, List, slice_get}
+use Rattle.std.specs.Prelude.{◌≡◌, ◌<◌, ℕ, Some, Ok, List, slice_get}
 use Rattle.std.specs.List.{All}
 use Rattle.mx_base.specs.Memory.{Bytes, no_bytes}
 use Rattle.obj_file.specs.declared.object.Object.{Object}
@@ -19,6 +19,11 @@ use Rattle.obj_linker.specs.Symbols.{ids, sig_at}
 pub record AreLinked (os : List Object) (v : Image) : Type 0 where
   pub objects : All IsObject os
   pub image : linked mpx_gates os ≡ Ok v
+
+-- what the parts of an object hold are bytes
+pub record HoldsBytes (o : Object) : Type 0 where
+  pub code : All (λ b. b < 256) o.code
+  pub stored : All (λ b. b < 256) o.stored
 
 -- the byte that an image has at each address
 abbrev pub bytes_in : Image → Bytes

@@ -1,15 +1,18 @@
 //! Laws of linked images. Each function does nothing, and its contract is the law.
 
 ghost use Rattle.std.specs.Prelude.{◌≡◌, ℕ, Bool, true, Some, List, slice_get};
+ghost use Rattle.std.specs.List.{All};
 ghost use Rattle.obj_file.specs.declared.object.Object.{Object};
 ghost use Rattle.obj_file.specs.declared.image.Image.{Image};
 ghost use Rattle.obj_file.specs.Image.{IsImage};
 ghost use Rattle.obj_file.specs.Machine.{IsReader, Reading};
-ghost use Rattle.gate_laws.specs.Owed.{IsLinked};
+ghost use Rattle.obj_file.specs.Stored.{stored_at_start};
+ghost use Rattle.obj_file.specs.StoreLaw.{HaveBytes};
+ghost use Rattle.gate_laws.specs.Owed.{IsLinked, IsLoaded};
 ghost use Rattle.obj_linker.specs.Placement.{plan_of, spot_of};
 ghost use Rattle.linked_laws.specs.Alike.{AreAlike};
-ghost use Rattle.linked_laws.specs.Linkage.{inner_of, linkage_of, stub_of};
-ghost use Rattle.linked_laws.specs.Linked.{AreLinked, HaveParts, bytes_in};
+ghost use Rattle.linked_laws.specs.Linkage.{inner_of, linkage_of, main_of, stub_of};
+ghost use Rattle.linked_laws.specs.Linked.{AreLinked, HaveParts, HoldsBytes, bytes_in};
 
 /// The image of linked objects keeps all rules of images: segments are in order and apart, each within one region of code or data, files
 /// have names, and places stand in order in instrumented code.
@@ -29,6 +32,21 @@ pub fn parts_stand_at_their_addresses()
 pub fn gates_stand_where_they_are_wanted()
     ensures { (reads : List ℕ → Reading) → IsReader reads → (preserve : Bool) (os : List Object) (v : Image) → AreLinked os v
         → IsLinked (linkage_of reads preserve os) (bytes_in v) (inner_of os) (stub_of os) }
+{}
+
+/// Where the parts of objects hold bytes, so do the segments of their image.
+pub fn linked_segments_hold_bytes()
+    ensures { (os : List Object) (v : Image) → AreLinked os v → All HoldsBytes os → HaveBytes v.segments }
+{}
+
+/// The image of linked objects is loaded as a start wants it (`IsLoaded` of `gate_laws`), by an exact reader of instructions: before the
+/// first event its start leads to `main`, which takes nothing and gives an int, memory has the code of the image and its data, and no
+/// bounds are kept.
+pub fn linked_images_are_loaded()
+    ensures { (reads : List ℕ → Reading) → IsReader reads → (preserve : Bool) (os : List Object) (v : Image) → AreLinked os v
+        → All HoldsBytes os → (input : List ℕ)
+        → IsLoaded (linkage_of reads preserve os) (bytes_in v) (inner_of os) (main_of os) (bytes_in v)
+        (stored_at_start v.segments preserve input).memory }
 {}
 
 /// Where data and legacy code stand doesn't depend on how large instrumented code is.
