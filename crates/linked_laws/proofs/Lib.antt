@@ -11,3 +11,5 @@ pub mod Gated
 pub mod Bytes
 pub mod Main
 pub mod Loaded
+pub mod Fields
+pub mod Filled

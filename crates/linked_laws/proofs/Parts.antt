@@ -20,7 +20,7 @@ with_field_length bytes at field = by (nat_le (at + length field) (length bytes)
     by false e = refl
 
 module _ (os : List Object) (plan : Plan) (object : ℕ) (o : Object) (part : ℕ) where
-  fixed_once : (bytes : List ℕ) (f : Fix) → length (fixed os plan object o part bytes f) ≡ length bytes
+  pub fixed_once : (bytes : List ℕ) (f : Fix) → length (fixed os plan object o part bytes f) ≡ length bytes
   fixed_once bytes f = by (f.part == part)
     where
       by : (b : Bool) → length (if b then with_field bytes f.offset (field_bytes f.form (fix_value os plan object o f)) else bytes) ≡ length bytes

@@ -11,6 +11,7 @@ ghost use Rattle.obj_file.specs.StoreLaw.{HaveBytes};
 ghost use Rattle.gate_laws.specs.Owed.{IsLinked, IsLoaded};
 ghost use Rattle.obj_linker.specs.Placement.{plan_of, spot_of};
 ghost use Rattle.linked_laws.specs.Alike.{AreAlike};
+ghost use Rattle.linked_laws.specs.Fields.{AreFilled};
 ghost use Rattle.linked_laws.specs.Linkage.{inner_of, linkage_of, main_of, stub_of};
 ghost use Rattle.linked_laws.specs.Linked.{AreLinked, HaveParts, HoldsBytes, bytes_in};
 
@@ -24,6 +25,12 @@ pub fn linked_objects_make_an_image()
 /// with its fields filled.
 pub fn parts_stand_at_their_addresses()
     ensures { (os : List Object) (v : Image) → AreLinked os v → HaveParts os (plan_of os) (bytes_in v) }
+{}
+
+/// In the image of linked objects the field of each fix-up holds its value, in 4 bytes as a signed number, and each other byte of a part is
+/// the object's.
+pub fn fields_hold_their_values()
+    ensures { (os : List Object) (v : Image) → AreLinked os v → AreFilled os (plan_of os) (bytes_in v) }
 {}
 
 /// The gates of the image of linked objects stand where the laws of gates want them (`IsLinked` of `gate_laws`), by an exact reader of
