@@ -21,7 +21,7 @@ use Rattle.steps_facts.specs.declared.knows.Standing.{Standing}
 use Rattle.steps_facts.specs.declared.knows.Standing.TheVariants as t
 use Rattle.steps_facts.specs.Seen.{SeenOf, spot_of}
 use Rattle.steps_facts.specs.Around.{standing_at}
-use Rattle.steps_pieces.specs.Put.{Put, added, goes}
+use Rattle.steps_pieces.specs.Put.{Put, added}
 use Rattle.steps_pieces.specs.Wanted.{null_at, given_number}
 use Rattle.steps_pieces.specs.Own.{word_own, storing, value_at, assigned_own}
 use Rattle.steps_filling.specs.Effects.{went_effect}

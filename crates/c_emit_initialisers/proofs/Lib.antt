@@ -1,0 +1,4 @@
+pub mod TextLemmas
+pub mod ZeroLemmas
+pub mod OneLemmas
+pub mod FillLemmas
