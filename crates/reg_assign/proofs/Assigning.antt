@@ -14,6 +14,9 @@ use Rattle.reg_assign.specs.Noise.{is_call}
 use Rattle.reg_assign.specs.Ranges.{lived, AreSpans}
 use Rattle.reg_assign.specs.Places.{is_quiet, Crowded, ArePlaced}
 use Rattle.reg_assign.specs.Homes.{register_at, number_home, pair_home, is_bounds_in, home_in, homes_by, IsQuiet, HoldsCall, InManyQuiet, AreHomes}
+use Rattle.reg_assign.specs.declared.wishes.Wishes.{Wishes}
+use Rattle.reg_assign.specs.Wishing.{WishesFor, IsWishing, AreWishes}
+use Rattle.reg_assign.specs.Granted.{AreGranted}
 use Rattle.reg_assign.proofs.Noises.{quiet_is_quiet, noisy_has_call}
 
 -- ---- homes by places
@@ -180,7 +183,7 @@ module _ (f : FatFun) (l : Lives) (are : AreSpans f l) where
     many = c.many;
   }
 
-  module _ (sort : Bool) (registers : ℕ) (some : 1 ≤ registers) (place : ℕ → ℕ) (placed : ArePlaced f l sort registers place) where
+  module _ (sort : Bool) (registers : ℕ) (some : 1 ≤ registers) (wishes : List ℕ) (place : ℕ → ℕ) (placed : ArePlaced f l sort registers wishes place) where
     lives_at : (v : ℕ) → registers ≤ place v → 0 < past_of l v
     lives_at v slot = elim (cases_lt 0 (past_of l v)) [ inl more ↦ more | inr none ↦ let e = placed.idle v (omega arith) in absurd (omega arith) ]
 
@@ -200,7 +203,7 @@ module _ (f : FatFun) (l : Lives) (are : AreSpans f l) where
     places_differ u v i ne mine also a b e = let h = holds_of u i a in let g = holds_of v i b in let h0 = h.0 in let h1 = h.1 in let g0 = g.0 in let g1 = g.1 in
         elim (placed.apart u v ne (omega arith) (omega arith) mine also e) [ inl le ↦ omega arith | inr le ↦ omega arith ]
 
-  module _ (number bounds : ℕ → ℕ) (numbers : ArePlaced f l false 6 number) (pairs : ArePlaced f l true 2 bounds) (words taken : ℕ) (few_words : words ≤ 152) (few_pairs : taken ≤ 152)
+  module _ (wishes : Wishes) (number bounds : ℕ → ℕ) (numbers : ArePlaced f l false 6 wishes.numbers number) (pairs : ArePlaced f l true 2 wishes.bounds bounds) (words taken : ℕ) (few_words : words ≤ 152) (few_pairs : taken ≤ 152)
       (all_numbers : (v : ℕ) → number v < 6 + words) (all_pairs : (v : ℕ) → bounds v < 2 + taken) where
     abbrev homes : List Home
     homes = homes_by number bounds words 0 f.bounds
@@ -224,18 +227,18 @@ module _ (f : FatFun) (l : Lives) (are : AreSpans f l) where
 
     apart_homes : (u v i : ℕ) → u ≢ v → InSpan f u i → InSpan f v i → (a b : Bool) → is_bounds_in f u ≡ a → is_bounds_in f v ≡ b → Apart a (home_in homes u) b (home_in homes v)
     apart_homes u v i ne g h false false e d = subst (λ x. Apart false x false (home_in homes v)) (sym (number_is u e)) (subst (λ y. Apart false (number_home (number u)) false y) (sym (number_is v d))
-        (numbers_apart (number u) (number v) (places_differ false 6 (omega arith) number numbers u v i ne e d g h)))
+        (numbers_apart (number u) (number v) (places_differ false 6 (omega arith) wishes.numbers number numbers u v i ne e d g h)))
     apart_homes u v i ne g h true true e d = subst (λ x. Apart true x true (home_in homes v)) (sym (pair_is u e)) (subst (λ y. Apart true (pair_home words (bounds u)) true y) (sym (pair_is v d))
-        (pairs_apart words (bounds u) (bounds v) (places_differ true 2 (omega arith) bounds pairs u v i ne e d g h)))
+        (pairs_apart words (bounds u) (bounds v) (places_differ true 2 (omega arith) wishes.bounds bounds pairs u v i ne e d g h)))
     apart_homes u v i ne g h false true e d = subst (λ x. Apart false x true (home_in homes v)) (sym (number_is u e)) (subst (λ y. Apart false (number_home (number u)) true y) (sym (pair_is v d))
         (mixed_apart words (number u) (bounds v) (all_numbers u)))
     apart_homes u v i ne g h true false e d = subst (λ x. Apart true x false (home_in homes v)) (sym (pair_is u e)) (subst (λ y. Apart true (pair_home words (bounds u)) false y) (sym (number_is v d))
         (mixed_apart_too words (number v) (bounds u) (all_numbers v)))
 
     call_slot : (v i : ℕ) (step : FatStep) → StandsAt f.steps i step → is_call step ≡ true → InSpan f v i → (b : Bool) → is_bounds_in f v ≡ b → IsSlot (home_in homes v)
-    call_slot v i step stands call h false e = let le = calls_have_slots false 6 (omega arith) number numbers v i step e stands call h in
+    call_slot v i step stands call h false e = let le = calls_have_slots false 6 (omega arith) wishes.numbers number numbers v i step e stands call h in
         subst IsSlot (sym (number_is v e ∙ number_slot (number v) le)) tt
-    call_slot v i step stands call h true e = let le = calls_have_slots true 2 (omega arith) bounds pairs v i step e stands call h in
+    call_slot v i step stands call h true e = let le = calls_have_slots true 2 (omega arith) wishes.bounds bounds pairs v i step e stands call h in
         subst IsSlot (sym (pair_is v e ∙ pair_slot words (bounds v) le)) tt
 
     pub assigned : AreHomes f record { homes = homes; words = words + 2 * taken }
@@ -250,17 +253,58 @@ module _ (f : FatFun) (l : Lives) (are : AreSpans f l) where
       number_fits = λ v e. subst (IsNumberHome (words + 2 * taken)) (sym (number_is v e)) (number_home_fits (words + 2 * taken) (number v) (let a = all_numbers v in omega arith));
       pair_fits = λ v e. subst (IsPairHome (words + 2 * taken)) (sym (pair_is v e)) (pair_home_fits words taken (bounds v) (all_pairs v));
       calls = λ v i step stands call h. call_slot v i step stands call h (is_bounds_in f v) refl;
-      number_slots = λ v e slot. slots_mean false 6 (omega arith) number numbers v e (slot_of_number (number v) (subst IsSlot (number_is v e) slot));
-      pair_slots = λ v e slot. slots_mean true 2 (omega arith) bounds pairs v e (slot_of_pair words (bounds v) (subst IsSlot (pair_is v e) slot));
+      number_slots = λ v e slot. slots_mean false 6 (omega arith) wishes.numbers number numbers v e (slot_of_number (number v) (subst IsSlot (number_is v e) slot));
+      pair_slots = λ v e slot. slots_mean true 2 (omega arith) wishes.bounds bounds pairs v e (slot_of_pair words (bounds v) (subst IsSlot (pair_is v e) slot));
     }
 
+    module _ (may : AreWishes f wishes) where
+      lives_first : (v : ℕ) → v < f.private + f.arrived → 0 < past_of l v
+      lives_first v lt = let h = ((are.spans v).first lt).1 in omega arith
+
+      number_granted : (v place : ℕ) → WishesFor wishes.numbers v place → (home_in homes v ≡ Reg (register_at place)) ⊎ IsSlot (home_in homes v)
+      number_granted v place w = let is : IsWishing wishes.numbers v = record { place = place; wishes = w } in let kind = may.numbers.kind v is in
+          elim (numbers.granted v (lives_first v (may.numbers.first v is)) kind is) [
+            | inl g ↦ inl (number_is v kind ∙ (number_register (number v) (let a = g.0 in let b = may.numbers.few in omega arith)
+                ∙ ap (λ c. Reg (register_at c)) (may.numbers.once v (number v) place g w)))
+            | inr le ↦ inr (subst IsSlot (sym (number_is v kind ∙ number_slot (number v) le)) tt)
+          ]
+
+      pair_granted : (v place : ℕ) → WishesFor wishes.bounds v place → (home_in homes v ≡ Bnd (place + 2)) ⊎ IsSlot (home_in homes v)
+      pair_granted v place w = let is : IsWishing wishes.bounds v = record { place = place; wishes = w } in let kind = may.bounds.kind v is in
+          elim (pairs.granted v (lives_first v (may.bounds.first v is)) kind is) [
+            | inl g ↦ inl (pair_is v kind ∙ (pair_register words (bounds v) (let a = g.0 in let b = may.bounds.few in omega arith)
+                ∙ ap (λ c. Bnd (c + 2)) (may.bounds.once v (bounds v) place g w)))
+            | inr le ↦ inr (subst IsSlot (sym (pair_is v kind ∙ pair_slot words (bounds v) le)) tt)
+          ]
+
+      pub granted : AreGranted wishes record { homes = homes; words = words + 2 * taken }
+      granted = record { numbers = number_granted; bounds = pair_granted }
+
 -- the same of lists of places
-pub assigned_by : (f : FatFun) (l : Lives) → AreSpans f l → (ns bs : List ℕ) → ArePlaced f l false 6 (λ v. get_or ns v 0) → ArePlaced f l true 2 (λ v. get_or bs v 0)
-    → (words taken : ℕ) → words ≤ 152 → taken ≤ 152 → (some_ns some_bs other_ns other_bs : List ℕ) → some_ns ≡ ns → some_bs ≡ bs → other_ns ≡ ns → other_bs ≡ bs
-    → ((v : ℕ) → get_or some_ns v 0 < 6 + words) → ((v : ℕ) → get_or some_bs v 0 < 2 + taken)
-    → (given : List Home) → given ≡ homes_by (λ v. get_or other_ns v 0) (λ v. get_or other_bs v 0) words 0 f.bounds → AreHomes f record { homes = given; words = words + 2 * taken }
-assigned_by f l are ns bs placed also words taken few few_too some_ns some_bs other_ns other_bs e1 e2 e3 e4 all all_too given is =
-    subst (λ hs. AreHomes f record { homes = hs; words = words + 2 * taken })
-    (sym (is ∙ (ap (λ xs. homes_by (λ v. get_or xs v 0) (λ v. get_or other_bs v 0) words 0 f.bounds) e3 ∙ ap (λ xs. homes_by (λ v. get_or ns v 0) (λ v. get_or xs v 0) words 0 f.bounds) e4)))
-    (assigned f l are (λ v. get_or ns v 0) (λ v. get_or bs v 0) placed also words taken few few_too
-    (subst (λ xs. (v : ℕ) → get_or xs v 0 < 6 + words) e1 all) (subst (λ xs. (v : ℕ) → get_or xs v 0 < 2 + taken) e2 all_too))
+module _ (f : FatFun) (l : Lives) (are : AreSpans f l) (w : Wishes) (may : AreWishes f w) (wished_ns wished_bs : List ℕ) (e5 : wished_ns ≡ w.numbers) (e6 : wished_bs ≡ w.bounds)
+    (ns bs : List ℕ) (placed : ArePlaced f l false 6 wished_ns (λ v. get_or ns v 0)) (also : ArePlaced f l true 2 wished_bs (λ v. get_or bs v 0))
+    (words taken : ℕ) (few : words ≤ 152) (few_too : taken ≤ 152) (some_ns some_bs other_ns other_bs : List ℕ) (e1 : some_ns ≡ ns) (e2 : some_bs ≡ bs) (e3 : other_ns ≡ ns) (e4 : other_bs ≡ bs)
+    (all : (v : ℕ) → get_or some_ns v 0 < 6 + words) (all_too : (v : ℕ) → get_or some_bs v 0 < 2 + taken)
+    (given : List Home) (is : given ≡ homes_by (λ v. get_or other_ns v 0) (λ v. get_or other_bs v 0) words 0 f.bounds) where
+  numbers_placed : ArePlaced f l false 6 w.numbers (λ v. get_or ns v 0)
+  numbers_placed = subst (λ xs. ArePlaced f l false 6 xs (λ v. get_or ns v 0)) e5 placed
+
+  pairs_placed : ArePlaced f l true 2 w.bounds (λ v. get_or bs v 0)
+  pairs_placed = subst (λ xs. ArePlaced f l true 2 xs (λ v. get_or bs v 0)) e6 also
+
+  homes_are : given ≡ homes_by (λ v. get_or ns v 0) (λ v. get_or bs v 0) words 0 f.bounds
+  homes_are = is ∙ (ap (λ xs. homes_by (λ v. get_or xs v 0) (λ v. get_or other_bs v 0) words 0 f.bounds) e3 ∙ ap (λ xs. homes_by (λ v. get_or ns v 0) (λ v. get_or xs v 0) words 0 f.bounds) e4)
+
+  all_numbers_within : (v : ℕ) → get_or ns v 0 < 6 + words
+  all_numbers_within = subst (λ xs. (v : ℕ) → get_or xs v 0 < 6 + words) e1 all
+
+  all_pairs_within : (v : ℕ) → get_or bs v 0 < 2 + taken
+  all_pairs_within = subst (λ xs. (v : ℕ) → get_or xs v 0 < 2 + taken) e2 all_too
+
+  pub assigned_by : AreHomes f record { homes = given; words = words + 2 * taken }
+  assigned_by = subst (λ hs. AreHomes f record { homes = hs; words = words + 2 * taken }) (sym homes_are)
+      (assigned f l are w (λ v. get_or ns v 0) (λ v. get_or bs v 0) numbers_placed pairs_placed words taken few few_too all_numbers_within all_pairs_within)
+
+  pub granted_by : AreGranted w record { homes = given; words = words + 2 * taken }
+  granted_by = subst (λ hs. AreGranted w record { homes = hs; words = words + 2 * taken }) (sym homes_are)
+      (granted f l are w (λ v. get_or ns v 0) (λ v. get_or bs v 0) numbers_placed pairs_placed words taken few few_too all_numbers_within all_pairs_within may)

@@ -1,6 +1,8 @@
 pub mod Touching
 pub mod Living
 pub mod Walking
+pub mod Wishing
+pub mod Ahead
 pub mod Looping
 pub mod Lived
 pub mod Counting

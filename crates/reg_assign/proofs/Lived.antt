@@ -1,7 +1,7 @@
 -- The ranges in which values live are their spans.
-use Rattle.std.proofs.Common.{ℕ, zero, suc, ◌+◌, ◌≡◌, ◌<◌, ◌≤◌, inl, inr, refl, sym, ap, ◌∙◌, subst, List, [], ◌∷◌, length, Some, arith, get_or, map, slice_get}
+use Rattle.std.proofs.Common.{ℕ, zero, suc, ◌+◌, ◌≡◌, ◌<◌, ◌≤◌, inl, inr, refl, sym, ap, ◌∙◌, subst, List, [], ◌∷◌, ◌++◌, false, true, length, Some, arith, get_or, map, slice_get}
 use Rattle.std.specs.List.{All, Contains}
-use Rattle.std.proofs.lemmas.Bool.{cases_lt}
+use Rattle.std.proofs.lemmas.Bool.{cases_lt, false≢true, true≢false}
 use Rattle.fat_ir.specs.declared.program.FatFun.{FatFun}
 use Rattle.fat_ir.specs.declared.step.FatStep.{FatStep}
 use Rattle.fat_ir.specs.declared.step.FatStep.TheVariants.{Label}
@@ -12,6 +12,10 @@ use Rattle.reg_assign.specs.declared.loops.Loop.{Loop}
 use Rattle.reg_assign.specs.Lives.{nowhere, all_touched, steps_touched, from_on, entered, range_in, from_of, past_of, lives}
 use Rattle.reg_assign.specs.Loops.{jumps_noted, loops_from, loops_in, extended, extended_range}
 use Rattle.reg_assign.specs.Ranges.{lived, AreSpans}
+use Rattle.reg_assign.specs.declared.wishes.Wishes.{Wishes}
+use Rattle.reg_assign.specs.Wishing.{IsWishing, AreWishes, StandAhead}
+use Rattle.reg_assign.proofs.Wishing.{wishing_one, wishing_left, wishing_right, wishing_contained, wishing_at}
+use Rattle.reg_assign.proofs.Ahead.{OnlyWishing, Ahead, only_all, ahead_all, ahead_steps}
 use Rattle.reg_assign.proofs.Living.{Sound}
 use Rattle.reg_assign.proofs.Looping.{noted_near, noted_last, noted_from, extended_grows, extended_zero, reaches, no_farther}
 use Rattle.reg_assign.proofs.Walking.{all_cons, Covers, sound_nowhere, sound_all, now_all, later, touchable, sound_steps, kept_steps, named_steps, ended_steps}
@@ -35,12 +39,15 @@ extended_in ls [] v = ap until (sym (extended_zero 0 ls))
 extended_in ls (r ∷ rs) zero = refl
 extended_in ls (r ∷ rs) (suc v) = extended_in ls rs v
 
-module _ (f : FatFun) (can : IsAssignable f) where
+module _ (ahead : List ℕ) (f : FatFun) (can : IsAssignable f) (low : (v : ℕ) → IsWishing ahead v → v < f.private + f.arrived) where
   first : Lives
   first = nowhere (length f.bounds)
 
+  led : Lives
+  led = all_touched 0 ahead (nowhere (length f.bounds))
+
   begun : Lives
-  begun = entered (f.private + f.arrived) (nowhere (length f.bounds))
+  begun = entered ahead (f.private + f.arrived) (nowhere (length f.bounds))
 
   base : Lives
   base = steps_touched 0 f.steps begun
@@ -58,13 +65,33 @@ module _ (f : FatFun) (can : IsAssignable f) where
   all_first : All Touchable (from_on 0 (f.private + f.arrived))
   all_first = all_from_on Touchable 0 (f.private + f.arrived) (λ u low high. touchable_first u (omega arith))
 
+  all_ahead : All Touchable ahead
+  all_ahead = λ k d lt. touchable_first (get_or ahead k d) (low (get_or ahead k d) (wishing_at ahead k d lt))
+
+  sound_led : Sound f 0 led
+  unfolding led first
+  sound_led = sound_all f 0 ahead first sound_first all_ahead
+
+  only_led : OnlyWishing f ahead led
+  unfolding led first
+  only_led = only_all f ahead ahead first sound_first all_ahead (λ k d lt. wishing_at ahead k d lt) (λ k lt. absurd (omega arith))
+
+  has_led : (v : ℕ) → IsWishing ahead v → 0 < past_of led v
+  unfolding led first
+  has_led v w = let c = (now_all f 0 ahead first sound_first all_ahead v (wishing_contained ahead v w)).1 in omega arith
+
   sound_begun : Sound f 0 begun
-  unfolding begun first
-  sound_begun = sound_all f 0 (from_on 0 (f.private + f.arrived)) first sound_first all_first
+  unfolding begun led
+  sound_begun = sound_all f 0 (from_on 0 (f.private + f.arrived)) led sound_led all_first
 
   begun_covers : (v : ℕ) → v < f.private + f.arrived → Covers begun v 0
-  unfolding begun first
-  begun_covers v lt = let h = from_on_at 0 (f.private + f.arrived) v v lt in now_all f 0 (from_on 0 (f.private + f.arrived)) first sound_first all_first v (v, h.0, h.1 ∙ omega arith)
+  unfolding begun led
+  begun_covers v lt = let h = from_on_at 0 (f.private + f.arrived) v v lt in now_all f 0 (from_on 0 (f.private + f.arrived)) led sound_led all_first v (v, h.0, h.1 ∙ omega arith)
+
+  ahead_begun : Ahead f ahead begun
+  unfolding begun led
+  ahead_begun = ahead_all f ahead 0 (from_on 0 (f.private + f.arrived)) led sound_led all_first
+      (record { has = has_led; front = λ j k lt within w. only_led j (omega arith) })
 
   all_stand : (j : ℕ) (step : FatStep) → slice_get f.steps j ≡ Some step → StandsAt f.steps (0 + j) step
   all_stand j step e = subst (λ i. StandsAt f.steps i step) (omega arith) e
@@ -72,6 +99,10 @@ module _ (f : FatFun) (can : IsAssignable f) where
   sound_base : Sound f (0 + length f.steps) base
   unfolding base
   sound_base = sound_steps f can 0 f.steps begun all_stand sound_begun
+
+  ahead_base : Ahead f ahead base
+  unfolding base
+  ahead_base = ahead_steps f ahead can 0 f.steps begun all_stand sound_begun ahead_begun
 
   covers_first : (v : ℕ) → v < f.private + f.arrived → Covers base v 0
   unfolding base
@@ -101,7 +132,7 @@ module _ (f : FatFun) (can : IsAssignable f) where
   past_jump_to n = jumps_noted n 0 0 f.steps
 
   abbrev all : Lives
-  all = lives f
+  all = lives ahead f
 
   range_all : (v : ℕ) → range_in all.ranges v ≡ extended_range (loops_in f.steps) (range_in base.ranges v)
   unfolding base begun
@@ -187,5 +218,32 @@ module _ (f : FatFun) (can : IsAssignable f) where
     rising = λ j k lt within. let r = sound_base.rising j k lt within in let a = from_all (get_or base.order j 0) in let b = from_all (get_or base.order k 0) in omega arith;
   }
 
-pub spans_of : (f : FatFun) (l : Lives) → l ≡ lives f → IsAssignable f → AreSpans f l
-spans_of f l e can = subst (AreSpans f) (sym e) (lives_are_spans f can)
+  pub lives_ahead : (j k : ℕ) → j < k → k < length all.order → IsWishing ahead (get_or all.order k 0) → IsWishing ahead (get_or all.order j 0)
+  unfolding base begun
+  lives_ahead = ahead_base.front
+
+-- numbers and bounds that wish stand ahead together
+module _ (f : FatFun) (l : Lives) (w : Wishes) (is : l ≡ lives (w.numbers ++ w.bounds) f) (can : IsAssignable f) (are : AreWishes f w) where
+  low_all : (v : ℕ) → IsWishing (w.numbers ++ w.bounds) v → v < f.private + f.arrived
+  low_all v h = elim (wishing_one w.numbers w.bounds v h) [ inl n ↦ are.numbers.first v n | inr b ↦ are.bounds.first v b ]
+
+  pub spans_of : AreSpans f l
+  spans_of = subst (AreSpans f) (sym is) (lives_are_spans (w.numbers ++ w.bounds) f can low_all)
+
+  pub numbers_ahead : StandAhead f l false w.numbers
+  numbers_ahead = subst (λ m. StandAhead f m false w.numbers) (sym is) (λ j k lt within h kind.
+      let u = get_or (lives (w.numbers ++ w.bounds) f).order j 0 in
+      elim (wishing_one w.numbers w.bounds u (lives_ahead (w.numbers ++ w.bounds) f can low_all j k lt within
+      (wishing_left w.numbers w.bounds (get_or (lives (w.numbers ++ w.bounds) f).order k 0) h))) [
+        | inl n ↦ n
+        | inr b ↦ absurd (false≢true (sym kind ∙ are.bounds.kind u b))
+      ])
+
+  pub bounds_ahead : StandAhead f l true w.bounds
+  bounds_ahead = subst (λ m. StandAhead f m true w.bounds) (sym is) (λ j k lt within h kind.
+      let u = get_or (lives (w.numbers ++ w.bounds) f).order j 0 in
+      elim (wishing_one w.numbers w.bounds u (lives_ahead (w.numbers ++ w.bounds) f can low_all j k lt within
+      (wishing_right w.numbers w.bounds (get_or (lives (w.numbers ++ w.bounds) f).order k 0) h))) [
+        | inl n ↦ absurd (true≢false (sym kind ∙ are.numbers.kind u n))
+        | inr b ↦ b
+      ])

@@ -1,6 +1,6 @@
 -- Places are given in the order in which values begin to live: values that live at one step have different places, there are enough, and none
 -- has a slot while a register is free.
-use Rattle.std.proofs.Common.{ℕ, ◌+◌, ◌≡◌, ◌≢◌, ◌<◌, ◌≤◌, ◌⊎◌, inl, inr, refl, sym, ap, ◌∙◌, subst, length, arith, get_or, nat_le, nat_lt, true, false, Bool, ◌&&◌, not, slice_index_or}
+use Rattle.std.proofs.Common.{ℕ, ◌+◌, ◌≡◌, ◌≢◌, ◌<◌, ◌≤◌, ◌⊎◌, inl, inr, refl, sym, ap, ◌∙◌, subst, List, length, arith, get_or, nat_le, nat_lt, true, false, Bool, ◌&&◌, not, slice_index_or}
 use Rattle.std.proofs.lemmas.Bool.{cases_eq, cases_lt, cases_Bool, and_parts, and_from, not-true}
 use Rattle.std.proofs.lemmas.Bool.Decides.{nat_tests}
 use Rattle.fat_ir.specs.declared.program.FatFun.{FatFun}
@@ -9,6 +9,7 @@ use Rattle.reg_assign.specs.declared.lives.Lives.{Lives}
 use Rattle.reg_assign.specs.Lives.{from_of, past_of}
 use Rattle.reg_assign.specs.Ranges.{AreSpans}
 use Rattle.reg_assign.specs.Places.{IsPick, is_quiet, Crowded, ArePlaced}
+use Rattle.reg_assign.specs.Wishing.{WishesFor, IsWishing, IsWish, MayWish, StandAhead}
 use Rattle.reg_assign.proofs.Counting.{picked, picked_rise, picked_pass, Found, many_and_one}
 
 sort_test : Bool → Bool → Bool
@@ -25,7 +26,7 @@ unfolding sort_test
 sort_passes true b e = e
 sort_passes false b e = ap not e
 
-module _ (f : FatFun) (l : Lives) (sort : Bool) (registers : ℕ) where
+module _ (f : FatFun) (l : Lives) (sort : Bool) (registers : ℕ) (wishes : List ℕ) where
   abbrev pub Mine : ℕ → Type 0
   Mine v = slice_index_or f.bounds v false ≡ sort
 
@@ -50,6 +51,7 @@ module _ (f : FatFun) (l : Lives) (sort : Bool) (registers : ℕ) where
     pub holder : (c : ℕ) → c < registers + 152 → (until c ≡ 0) ⊎ Holder k until place c
     pub slots : (v : ℕ) → Done k v → Mine v → is_quiet f l v ≡ false → registers ≤ place v
     pub crowded : (v : ℕ) → Done k v → Mine v → registers ≤ place v → is_quiet f l v ≡ true → Crowded f (is_quiet f l) sort registers (from_of l v)
+    pub granted : (v : ℕ) → Done k v → Mine v → IsWishing wishes v → WishesFor wishes v (place v) ⊎ (registers ≤ place v)
 
   pub none_placed : (until place : ℕ → ℕ) → ((c : ℕ) → until c ≡ 0) → ((v : ℕ) → place v ≡ 0) → Placed 0 until place
   none_placed until place zeros none = record {
@@ -60,6 +62,7 @@ module _ (f : FatFun) (l : Lives) (sort : Bool) (registers : ℕ) where
     holder = λ c lt. inl (zeros c);
     slots = λ v d. absurd (let a = d.1 in omega arith);
     crowded = λ v d. absurd (let a = d.1 in omega arith);
+    granted = λ v d. absurd (let a = d.1 in omega arith);
   }
 
   live : (i u : ℕ) → Bool
@@ -78,7 +81,7 @@ module _ (f : FatFun) (l : Lives) (sort : Bool) (registers : ℕ) where
   quiet_live : (i u : ℕ) → Bool
   quiet_live i u = is_quiet f l u && live i u
 
-  module _ (can : IsAssignable f) (are : AreSpans f l) where
+  module _ (can : IsAssignable f) (are : AreSpans f l) (may : MayWish f sort registers wishes) (ahead : StandAhead f l sort wishes) where
     few : (i : ℕ) → InFewSpans 152 f sort i
     few i = elim sort as (λ b. InFewSpans 152 f b i) [ true ↦ can.bounds i | false ↦ can.numbers i ]
 
@@ -136,12 +139,14 @@ module _ (f : FatFun) (l : Lives) (sort : Bool) (registers : ℕ) where
         ];
         slots = λ u d mine. placed.slots u (old u d mine) mine;
         crowded = λ u d mine. placed.crowded u (old u d mine) mine;
+        granted = λ u d mine. placed.granted u (old u d mine) mine;
       }
         where
           old : (u : ℕ) → Done (k + 1) u → Mine u → Done k u
           old u d mine = elim (old_or u d) [ inl h ↦ h | inr e ↦ absurd (other (subst Mine e mine)) ]
 
-      module _ (mine : Mine v) (chosen : ℕ) (pick : IsPick until (registers + 152) (from_of l v) (is_quiet f l v) registers chosen) where
+      module _ (mine : Mine v) (wished : ℕ) (wish : IsWish wishes v wished) (chosen : ℕ)
+          (pick : IsPick until (registers + 152) (from_of l v) (is_quiet f l v) wished registers chosen) where
         -- a place that is taken at this step has a value that lives there
         taken : (c : ℕ) → c < registers + 152 → from_of l v < until c → Holder k until place c
         taken c lt high = elim (placed.holder c lt) [ inl z ↦ absurd (omega arith) | inr h ↦ h ]
@@ -160,14 +165,49 @@ module _ (f : FatFun) (l : Lives) (sort : Bool) (registers : ℕ) where
         fits = elim (cases_lt chosen (registers + 152)) [
           | inl lt ↦ lt
           | inr le ↦ absurd (enough (from_of l v) (many_and_one place (length f.bounds) registers 152 (live (from_of l v)) v (are.within v lived_now) live_now
-              (λ c low lt. found c lt (pick.busy (omega arith) c (omega arith) (inl low)))))
+              (λ c low lt. found c lt (pick.busy c (omega arith) (inl low)))))
+        ]
+
+        -- the place that it wishes for is free: the values before it wish too, for others
+        free_wish : WishesFor wishes v wished → until wished ≤ from_of l v
+        free_wish w = let few = may.few in let w0 = w.0 in elim (cases_lt (from_of l v) (until wished)) [
+          | inr le ↦ le
+          | inl high ↦ let h = taken wished (omega arith) high in
+              let is = subst (IsWishing wishes) h.done.2 (ahead h.done.0 k h.done.1 short (record { place = wished; wishes = w }) (subst Mine (sym h.done.2) h.mine)) in
+              elim (placed.granted h.value h.done h.mine is) [
+                | inl g ↦ absurd (differs h.value h.done (sym (subst (λ c. WishesFor wishes h.value c) h.there g).1 ∙ w.1))
+                | inr slot ↦ let t = h.there in absurd (omega arith)
+              ]
+        ]
+
+        granted_now : WishesFor wishes v wished → is_quiet f l v ≡ true → chosen ≡ wished
+        granted_now w quiet = let low = pick.low quiet in let free = free_wish w in elim (cases_lt wished chosen) [
+          | inl lt ↦ let high = pick.busy wished lt (inr (quiet, omega arith)) in absurd (omega arith)
+          | inr le ↦ omega arith
+        ]
+
+        -- one that wishes has no slot while it is quiet
+        least_now : registers ≤ chosen → is_quiet f l v ≡ true → wished ≡ 0
+        least_now slot quiet = elim wish [
+          | inl w ↦ let e = granted_now w quiet in let few = may.few in let w0 = w.0 in absurd (omega arith)
+          | inr none ↦ none.0
+        ]
+
+        granted_or : IsWishing wishes v → WishesFor wishes v chosen ⊎ (registers ≤ chosen)
+        granted_or is = elim (cases_Bool (is_quiet f l v)) [
+          | inl quiet ↦ elim wish [
+            | inl w ↦ inl (subst (WishesFor wishes v) (sym (granted_now w quiet)) w)
+            | inr none ↦ absurd (none.1 is.place is.wishes)
+          ]
+          | inr noisy ↦ inr (pick.slot noisy)
         ]
 
         crowded_now : registers ≤ chosen → is_quiet f l v ≡ true → Crowded f (is_quiet f l) sort registers (from_of l v)
         unfolding quiet_live
         crowded_now slot quiet = crowd (from_of l v) (many_and_one place (length f.bounds) 0 registers (quiet_live (from_of l v)) v (are.within v lived_now) (and_from _ _ quiet live_now)
             (λ c low lt.
-            let high = pick.busy slot c (omega arith) (inr quiet) in
+            let least = least_now slot quiet in
+            let high = pick.busy c (omega arith) (inr (quiet, omega arith)) in
             let h = taken c (omega arith) high in
             let q : is_quiet f l h.value ≡ true = elim (cases_Bool (is_quiet f l h.value)) [
               | inl e ↦ e
@@ -236,15 +276,21 @@ module _ (f : FatFun) (l : Lives) (sort : Bool) (registers : ℕ) where
               | inl old ↦ placed.crowded u old m (let b = kept u old in omega arith) q
               | inr e ↦ subst (λ x. Crowded f (is_quiet f l) sort registers (from_of l x)) (sym e) (crowded_now (let b = ap place2 e in let c = here in omega arith) (subst (λ x. is_quiet f l x ≡ true) e q))
             ];
+            granted = λ u d m is. elim (old_or u d) [
+              | inl old ↦ subst (λ c. WishesFor wishes u c ⊎ (registers ≤ c)) (sym (kept u old)) (placed.granted u old m is)
+              | inr e ↦ subst (λ c. WishesFor wishes u c ⊎ (registers ≤ c)) (sym (ap place2 e ∙ here))
+                  (subst (λ x. WishesFor wishes x chosen ⊎ (registers ≤ chosen)) (sym e) (granted_or (subst (IsWishing wishes) e is)))
+            ];
           }
 
     -- ---- all values
 
-    pub all_placed : (until place : ℕ → ℕ) → Placed (length l.order) until place → ArePlaced f l sort registers place
+    pub all_placed : (until place : ℕ → ℕ) → Placed (length l.order) until place → ArePlaced f l sort registers wishes place
     all_placed until place placed = record {
       within = placed.within;
       idle = placed.idle;
       apart = λ u v ne more also mine m e. placed.apart u v ne (are.once u more) (are.once v also) mine m e;
       slots = λ v more mine q. placed.slots v (are.once v more) mine q;
       crowded = λ v more mine slot q. placed.crowded v (are.once v more) mine slot q;
+      granted = λ v more mine is. placed.granted v (are.once v more) mine is;
     }

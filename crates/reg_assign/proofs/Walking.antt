@@ -15,10 +15,10 @@ use Rattle.reg_assign.proofs.Living.{Sound, sound_touch, covered_kept, covered_n
 
 -- ---- lists
 
-all_head : (P : ℕ → Type 0) (x : ℕ) (xs : List ℕ) → All P (x ∷ xs) → P x
+pub all_head : (P : ℕ → Type 0) (x : ℕ) (xs : List ℕ) → All P (x ∷ xs) → P x
 all_head P x xs h = h zero x (omega arith)
 
-all_tail : (P : ℕ → Type 0) (x : ℕ) (xs : List ℕ) → All P (x ∷ xs) → All P xs
+pub all_tail : (P : ℕ → Type 0) (x : ℕ) (xs : List ℕ) → All P (x ∷ xs) → All P xs
 all_tail P x xs h = λ k d lt. h (suc k) d (omega arith)
 
 pub all_cons : (P : ℕ → Type 0) (x : ℕ) (xs : List ℕ) → P x → All P xs → All P (x ∷ xs)
@@ -35,7 +35,7 @@ Covers l v i = (from_of l v ≤ i) × (i < past_of l v)
 
 module _ (f : FatFun) where
   -- a value that may be touched here
-  abbrev Touchable : ℕ → ℕ → Type 0
+  abbrev pub Touchable : ℕ → ℕ → Type 0
   Touchable at v = (v < length f.bounds) × ((s : Range) → Spans f v s → Holds s at)
 
   pub sound_nowhere : Sound f 0 (nowhere (length f.bounds))
@@ -51,7 +51,7 @@ module _ (f : FatFun) where
 
   -- ---- values of one step
 
-  sound_one : (at v : ℕ) (l : Lives) → Sound f at l → Touchable at v → Sound f at (touched at v l)
+  pub sound_one : (at v : ℕ) (l : Lives) → Sound f at l → Touchable at v → Sound f at (touched at v l)
   sound_one at v l sound h = sound_touch f at v l (touched at v l) (touches at v l (let e = sound.sized in let lt = h.0 in omega arith)) sound h.1
 
   kept_one : (at v : ℕ) (l : Lives) → Sound f at l → Touchable at v → (u i : ℕ) → i ≤ at → Covers l u i → Covers (touched at v l) u i
@@ -93,13 +93,13 @@ module _ (f : FatFun) where
   }
 
   module _ (can : IsAssignable f) where
-    abbrev Rest : ℕ → List FatStep → Type 0
+    abbrev pub Rest : ℕ → List FatStep → Type 0
     Rest at rest = (j : ℕ) (step : FatStep) → slice_get rest j ≡ Some step → StandsAt f.steps (at + j) step
 
-    rest_of : (at : ℕ) (step : FatStep) (rest : List FatStep) → Rest at (step ∷ rest) → Rest (at + 1) rest
+    pub rest_of : (at : ℕ) (step : FatStep) (rest : List FatStep) → Rest at (step ∷ rest) → Rest (at + 1) rest
     rest_of at step rest r j x e = subst (λ i. StandsAt f.steps i x) (omega arith) (r (suc j) x e)
 
-    here : (at : ℕ) (step : FatStep) (rest : List FatStep) → Rest at (step ∷ rest) → StandsAt f.steps at step
+    pub here : (at : ℕ) (step : FatStep) (rest : List FatStep) → Rest at (step ∷ rest) → StandsAt f.steps at step
     here at step rest r = subst (λ i. StandsAt f.steps i step) (omega arith) (r zero step refl)
 
     pub touchable : (at : ℕ) (step : FatStep) → StandsAt f.steps at step → All (Touchable at) (named step)

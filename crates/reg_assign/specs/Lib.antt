@@ -2,6 +2,8 @@ pub mod Lives
 pub mod Loops
 pub mod Ranges
 pub mod Noise
+pub mod Wishing
 pub mod Places
 pub mod Homes
+pub mod Granted
 pub mod Laws

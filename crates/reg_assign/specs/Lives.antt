@@ -44,11 +44,14 @@ abbrev pub from_on : (v count : ℕ) → List ℕ
 from_on v zero = []
 from_on v (suc n) = v ∷ from_on (v + 1) n
 
-abbrev pub entered : (count : ℕ) → Lives → Lives
-entered count l = all_touched 0 (from_on 0 count) l
+-- some values live at the first step, in this order, and then the first ones of all
+abbrev pub entered : (ahead : List ℕ) → (count : ℕ) → Lives → Lives
+entered ahead count l = all_touched 0 (from_on 0 count) (all_touched 0 ahead l)
 
-abbrev pub lives : FatFun → Lives
-lives f = extended_all (loops_in f.steps) (steps_touched 0 f.steps (entered (f.private + f.arrived) (nowhere (length f.bounds))))
+-- where the values of a function live, of which some stand ahead in the order
+abbrev pub lives : (ahead : List ℕ) → FatFun → Lives
+lives ahead f = extended_all (loops_in f.steps)
+    (steps_touched 0 f.steps (entered ahead (f.private + f.arrived) (nowhere (length f.bounds))))
 
 -- the range of a value, empty where there is none
 abbrev pub range_in : List LiveRange → ℕ → LiveRange

@@ -5,10 +5,13 @@ ghost use Rattle.fat_ir.specs.Spans.{IsAssignable};
 ghost use Rattle.reg_assign.specs.Homes.{register_at, number_home, pair_home, homes_by, AreHomes};
 ghost use Rattle.reg_assign.specs.Ranges.{AreSpans};
 ghost use Rattle.reg_assign.specs.Places.{ArePlaced};
+ghost use Rattle.reg_assign.specs.Granted.{AreGranted};
+ghost use Rattle.reg_assign.specs.Wishing.{AreWishes};
 
 use crate::lives::live_ranges;
 use crate::noise::count_calls;
 use crate::places::place_values;
+use crate::wishes::Wishes;
 use fat_ir::FatFun;
 use mx_base::OutOfMemory;
 use sqlite_items::Items;
@@ -122,14 +125,16 @@ fn place_of(places: &[usize], value: usize) -> usize
 /// A home for each value of a function. Values whose spans share a step have homes that share no register and no word; one
 /// whose span holds a call or a service has a slot; and another only has one where its span holds a step at which no register
 /// is free. The span of a value holds the steps that name it, for a private one and one in which a parameter arrives the first
-/// step too, and goes on to the ends of loops that it reaches into.
+/// step too, and goes on to the ends of loops that it reaches into. A value that wishes for a register has that one, or a slot.
 ///
 /// It is a linear scan over the spans, in the order in which they begin.
-pub fn assign(alloc: Global, fun: &FatFun) -> Result<Homes, OutOfMemory>
-    requires { IsAssignable fun.now }
-    ensures { IfOk result (AreHomes fun.now) }
+pub fn assign(alloc: Global, fun: &FatFun, wishes: &Wishes) -> Result<Homes, OutOfMemory>
+    requires assignable { IsAssignable fun.now }
+    requires wishes { AreWishes fun.now wishes.now }
+    ensures homes { IfOk result (AreHomes fun.now) }
+    ensures granted { IfOk result (AreGranted wishes.now) }
 {
-    let lives = live_ranges(alloc, fun)?;
+    let lives = live_ranges(alloc, fun, wishes)?;
     let counts = count_calls(alloc, fun.steps.as_slice())?;
     let numbers = place_values(
         alloc,
@@ -138,6 +143,7 @@ pub fn assign(alloc: Global, fun: &FatFun) -> Result<Homes, OutOfMemory>
         counts.as_slice(),
         false,
         NUMBER_REGISTERS,
+        wishes.numbers.as_slice(),
     )?;
     let bounds = place_values(
         alloc,
@@ -146,6 +152,7 @@ pub fn assign(alloc: Global, fun: &FatFun) -> Result<Homes, OutOfMemory>
         counts.as_slice(),
         true,
         BOUNDS_REGISTERS,
+        wishes.bounds.as_slice(),
     )?;
     let words = slots_of(numbers.as_slice(), NUMBER_REGISTERS);
     let pairs = slots_of(bounds.as_slice(), BOUNDS_REGISTERS);

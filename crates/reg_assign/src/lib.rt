@@ -8,7 +8,9 @@ mod loops;
 mod names;
 mod noise;
 mod places;
+mod wishes;
 
 pub use homes::{Homes, assign};
 pub use laws::assigned_homes_are_had;
 pub use lives::{LiveRange, Lives, live_ranges};
+pub use wishes::Wishes;

@@ -1,14 +1,16 @@
 //! The steps in which each value lives.
 
-ghost use Rattle.std.specs.Prelude.{◌≡◌, ℕ, ◌+◌, ◌<◌, ◌≤◌, ◌^◌, ◌++◌, map, length, IfOk, OnOk};
+ghost use Rattle.std.specs.Prelude.{◌≡◌, ℕ, ◌+◌, ◌<◌, ◌≤◌, ◌^◌, ◌++◌, false, true, map, length, IfOk, OnOk};
 ghost use Rattle.fat_ir.specs.Named.{maybe, in_arguments};
 ghost use Rattle.fat_ir.specs.Spans.{named, IsAssignable};
 ghost use Rattle.reg_assign.specs.Ranges.{AreSpans};
+ghost use Rattle.reg_assign.specs.Wishing.{AreWishes, StandAhead};
 ghost use Rattle.reg_assign.specs.Lives.{up_to, touched, all_touched, steps_touched, nowhere, from_on, entered, lives, plain_named};
 ghost use Rattle.reg_assign.specs.Loops.{loops_in, extended_range, extended_all};
 
 use crate::loops::{Loop, extend, loops_of};
 use crate::names::names_of;
+use crate::wishes::Wishes;
 use fat_ir::{FatFun, FatStep};
 use mx_base::OutOfMemory;
 use sqlite_items::Items;
@@ -122,10 +124,20 @@ impl Lives {
         Ok(())
     }
 
+    /// These values live at the first step.
+    fn touch_first(&mut self, values: &[usize]) -> Result<(), OutOfMemory>
+        ensures { OnOk result (self.new ≡ all_touched 0 values.now self.old) }
+    {
+        for value in values {
+            self.touch(0, *value)?;
+        }
+        Ok(())
+    }
+
     /// The values below `count` live at the first step.
     #[tactic(auto, using(crate::proofs::Touching::from_on_next))]
     fn enter(&mut self, count: usize) -> Result<(), OutOfMemory>
-        ensures { OnOk result (self.new ≡ entered count self.old) }
+        ensures { OnOk result (self.new ≡ all_touched 0 (from_on 0 count) self.old) }
     {
         for value in 0..count {
             self.touch(0, value)?;
@@ -150,10 +162,13 @@ fn extended_ranges(
 }
 
 /// Where the values of a function live.
-fn lives_of(alloc: Global, fun: &FatFun) -> Result<Lives, OutOfMemory>
-    ensures { IfOk result (λ l. l ≡ lives fun.now) }
+#[tactic(auto, using(crate::proofs::Touching::all_touched_append))]
+fn lives_of(alloc: Global, fun: &FatFun, wishes: &Wishes) -> Result<Lives, OutOfMemory>
+    ensures { IfOk result (λ l. l ≡ lives (wishes.now.numbers ++ wishes.now.bounds) fun.now) }
 {
     let mut lives = Lives::none(alloc, fun.bounds.len())?;
+    lives.touch_first(wishes.numbers.as_slice())?;
+    lives.touch_first(wishes.bounds.as_slice())?;
     lives.enter(fun.private as usize + fun.arrived as usize)?;
     lives.touch_steps(fun.steps.as_slice())?;
     let loops = loops_of(alloc, fun.steps.as_slice())?;
@@ -162,13 +177,17 @@ fn lives_of(alloc: Global, fun: &FatFun) -> Result<Lives, OutOfMemory>
     Ok(Lives { ranges, order })
 }
 
-/// Where the values of a function live: the range of each is its span, and they stand in the order in which they begin to live.
+/// Where the values of a function live: the range of each is its span, and they stand in the order in which they begin to live,
+/// those that wish for registers ahead.
 #[tactic(auto, using(crate::proofs::Lived::spans_of))]
-pub fn live_ranges(alloc: Global, fun: &FatFun) -> Result<Lives, OutOfMemory>
-    requires { IsAssignable fun.now }
-    ensures value { IfOk result (λ l. l ≡ lives fun.now) }
+pub fn live_ranges(alloc: Global, fun: &FatFun, wishes: &Wishes) -> Result<Lives, OutOfMemory>
+    requires assignable { IsAssignable fun.now }
+    requires wishes { AreWishes fun.now wishes.now }
+    ensures value { IfOk result (λ l. l ≡ lives (wishes.now.numbers ++ wishes.now.bounds) fun.now) }
     ensures spans { IfOk result (AreSpans fun.now) }
+    ensures numbers { IfOk result (λ l. StandAhead fun.now l false wishes.now.numbers) }
+    ensures bounds { IfOk result (λ l. StandAhead fun.now l true wishes.now.bounds) }
 {
-    let lives = lives_of(alloc, fun)?;
+    let lives = lives_of(alloc, fun, wishes)?;
     Ok(lives)
 }

@@ -6,9 +6,11 @@ ghost use Rattle.reg_assign.specs.Ranges.{AreSpans};
 ghost use Rattle.fat_ir.specs.Spans.{IsAssignable};
 ghost use Rattle.reg_assign.specs.Lives.{range_in};
 ghost use Rattle.reg_assign.specs.Places.{IsPick, ArePlaced};
+ghost use Rattle.reg_assign.specs.Wishing.{MayWish, StandAhead};
 
 use crate::lives::{LiveRange, Lives};
 use crate::noise::is_quiet;
+use crate::wishes::wish_of;
 use fat_ir::FatFun;
 use mx_base::OutOfMemory;
 use sqlite_items::Items;
@@ -33,13 +35,14 @@ fn free_place(until: &[usize], at: usize, least: usize) -> usize
     until.len()
 }
 
-/// The place for a value: the first that is free, and no register where the value isn't quiet.
-fn pick(until: &[usize], at: usize, quiet: bool, registers: usize) -> usize
-    requires { registers ≤ length until.now }
-    ensures { IsPick (λ c. slice_index until.now c) (length until.now) at quiet registers result }
+/// The place for a value: the first from `least` on that is free, and no register where the value isn't quiet.
+fn pick(until: &[usize], at: usize, quiet: bool, least: usize, registers: usize) -> usize
+    requires least { least ≤ registers }
+    requires registers { registers ≤ length until.now }
+    ensures { IsPick (λ c. slice_index until.now c) (length until.now) at quiet least registers result }
 {
-    let least = if quiet { 0 } else { registers };
-    free_place(until, at, least)
+    let from = if quiet { least } else { registers };
+    free_place(until, at, from)
 }
 
 /// Places that are given.
@@ -91,7 +94,8 @@ fn is_bounds(fun: &FatFun, value: usize) -> bool
 }
 
 /// Places for numbers, or for bounds, of which the first ones are registers. Values that live at one step have different
-/// places, one that lives where a call or a service stands has no register, and another only has none where all are taken.
+/// places, one that lives where a call or a service stands has no register, and another only has none where all are taken. A
+/// value that wishes for a register has that one, or none.
 #[tactic(auto, using(crate::proofs::Giving::given_none, crate::proofs::Giving::placed_all))]
 pub(crate) fn place_values(
     alloc: Global,
@@ -100,13 +104,16 @@ pub(crate) fn place_values(
     counts: &[usize],
     bounds: bool,
     registers: usize,
+    wishes: &[usize],
 ) -> Result<Items<usize>, OutOfMemory>
     requires assignable { IsAssignable fun.now }
     requires spans { AreSpans fun.now lives.now }
     requires counts { counts.now ≡ counts_from 0 fun.now.steps }
     requires few { registers ≤ 6 }
+    requires wishes { MayWish fun.now bounds registers wishes.now }
+    requires ahead { StandAhead fun.now lives.now bounds wishes.now }
     ensures length { IfOk result (λ places. length places ≡ length fun.now.bounds) }
-    ensures placed { IfOk result (λ places. ArePlaced fun.now lives.now bounds registers (λ v. slice_index places v)) }
+    ensures placed { IfOk result (λ places. ArePlaced fun.now lives.now bounds registers wishes.now (λ v. slice_index places v)) }
 {
     let until = zeros(alloc, registers + MOST_AT_ONCE)?;
     let places = zeros(alloc, fun.bounds.len())?;
@@ -118,7 +125,8 @@ pub(crate) fn place_values(
         }
         let range = range_of(lives, index);
         let quiet = is_quiet(counts, range);
-        let place = pick(board.until.as_slice(), range.from, quiet, registers);
+        let least = wish_of(wishes, index);
+        let place = pick(board.until.as_slice(), range.from, quiet, least, registers);
         board.give(index, place, range.past);
     }
     let Board { places, .. } = board;
