@@ -1,3 +1,4 @@
 pub mod Limits
 pub mod Fine
 pub mod Serving
+pub mod Parameters

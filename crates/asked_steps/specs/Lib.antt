@@ -2,3 +2,4 @@ pub mod Assigned
 pub mod Alone
 pub mod Trees
 pub mod Homes
+pub mod Wishes

@@ -14,10 +14,12 @@ ghost use Rattle.step_code.specs.Homes.{first_in, last_in};
 ghost use Rattle.step_code.specs.Steps.{Plan};
 ghost use Rattle.reg_assign.specs.declared.homes.Homes.{Homes};
 ghost use Rattle.reg_assign.specs.Homes.{AreHomes};
+ghost use Rattle.reg_assign.specs.Wishing.{AreWishes};
 ghost use Rattle.asked_steps.specs.Alone.{AllLimited};
 ghost use Rattle.asked_steps.specs.Assigned.{HasSpare};
 ghost use Rattle.asked_steps.specs.Homes.{HomesServe};
 ghost use Rattle.asked_steps.specs.Trees.{FunctionWithin};
+ghost use Rattle.asked_steps.specs.Wishes.{parameters_wish};
 
 use bounds_plan::{jumps_find_their_labels, steps_name_values_of_their_sort};
 use reg_assign::assigned_homes_are_had;
@@ -51,6 +53,13 @@ pub fn compiled_functions_are_what_code_asks()
     steps_name_values_of_their_sort();
     jumps_find_their_labels();
 }
+
+/// The values in which a function's parameters arrive may wish, where they are not more than there are registers: six numbers, and
+/// bounds of four pointers, of which two arrive in registers that are homes.
+pub fn parameters_may_wish()
+    ensures { (count : ℕ → ℕ) (f : FunctionOfC) → FitsFunction count f → length (parameters_wish f).numbers ≤ 6
+        → length (parameters_wish f).bounds ≤ 2 → (name : ℕ) → AreWishes (fat_function name f) (parameters_wish f) }
+{}
 
 /// Homes that are assigned serve, in a plan that has them and a frame with four words more, which are to spare.
 pub fn assigned_homes_serve()

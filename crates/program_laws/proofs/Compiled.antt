@@ -2,8 +2,7 @@
 use Rattle.std.proofs.Common.{◌≡◌, ℕ, suc, ◌+◌, ◌<◌, ◌≤◌, Bool, true, false, Option, None, Some, List, [], ◌∷◌, ◌++◌, length, refl, arith, ap, ◌∙◌, sym, subst}
 use Rattle.std.specs.Prelude.{slice_index_or, nat_lt, if◌then◌else◌}
 use Rattle.std.proofs.lemmas.Bool.Decides.{nat_tests}
-use Rattle.std.proofs.lemmas.List.{length-append, append_assoc, get_or_append_left}
-use Rattle.std.proofs.Math.Seq.{get_or-append_seam}
+use Rattle.std.proofs.lemmas.List.{append_assoc, get_or_append_left}
 use Rattle.mx_base.specs.declared.numbers.IntKind.{IntKind}
 use Rattle.mx_base.specs.Memory.{Bytes}
 use Rattle.mx_base.specs.StopOfC.{AccessOfC}
@@ -20,6 +19,7 @@ use Rattle.step_code.specs.Steps.{Plan}
 use Rattle.step_code.proofs.Spanning.{homes_assigned}
 use Rattle.asked_steps.specs.Homes.{HomesServe}
 use Rattle.asked_steps.specs.Trees.{FunctionWithin}
+use Rattle.asked_steps.proofs.Parameters.{ArrivedAt, arrived_at}
 use Rattle.legacy_calls.specs.Legacy.{Linkage}
 use Rattle.program_laws.specs.Compiled.{layout_of, kinds_of, AreClear, IsCompiled, HasCompiled}
 use Rattle.program_laws.specs.Functions.{IsFunction, HasFunctions, returns_in, takes_in}
@@ -43,35 +43,6 @@ as_many (Private x kind ∷ ps) = ap (λ (n : ℕ). suc n) (as_many ps)
 as_many (Framed offset kind ∷ ps) = ap (λ (n : ℕ). suc n) (as_many ps)
 
 -- ---- parameters
-
--- the temporaries in which parameters arrive have their sorts in a list
-module _ (list : List Bool) where
-  abbrev ArrivedAt : List Parameter → ℕ → Type 0
-  ArrivedAt [] t = Unit {0}
-  ArrivedAt (Private x kind ∷ ps) t = ArrivedAt ps t
-  ArrivedAt (Framed offset (Some kind) ∷ ps) t = (slice_index_or list t false ≡ false) × ArrivedAt ps (t + 1)
-  ArrivedAt (Framed offset None ∷ ps) t = (slice_index_or list t false ≡ false) × (slice_index_or list (t + 1) false ≡ true) × ArrivedAt ps (t + 2)
-
-  read_at : (front back : List Bool) (b : Bool) (t : ℕ) → list ≡ front ++ b ∷ back → t ≡ length front → slice_index_or list t false ≡ b
-  read_at front back b t e at = ap (λ (xs : List Bool). slice_index_or xs t false) e ∙ ap (λ n. slice_index_or (front ++ b ∷ back) n false) at ∙ get_or-append_seam front b back false
-
-  grown : (front back : List Bool) (b : Bool) → list ≡ front ++ b ∷ back → list ≡ (front ++ b ∷ []) ++ back
-  grown front back b e = e ∙ sym (append_assoc front (b ∷ []) back)
-
-  longer : (front : List Bool) (b : Bool) (t : ℕ) → t ≡ length front → t + 1 ≡ length (front ++ b ∷ [])
-  longer front b t at = let e = length-append front (b ∷ []) in omega arith
-
-  arrived_at : (ps : List Parameter) (front back : List Bool) (t : ℕ) → list ≡ front ++ (arrived ps ++ back) → t ≡ length front → ArrivedAt ps t
-  arrived_at [] front back t e at = tt
-  arrived_at (Private x kind ∷ ps) front back t e at = arrived_at ps front back t e at
-  arrived_at (Framed offset (Some kind) ∷ ps) front back t e at =
-      (read_at front (arrived ps ++ back) false t e at, arrived_at ps (front ++ false ∷ []) back (t + 1) (grown front (arrived ps ++ back) false e) (longer front false t at))
-  arrived_at (Framed offset None ∷ ps) front back t e at =
-      let one = grown front (true ∷ (arrived ps ++ back)) false e in
-      let at_1 = longer front false t at in
-      let two = grown (front ++ false ∷ []) (arrived ps ++ back) true one in
-      let at_2 : t + 2 ≡ length ((front ++ false ∷ []) ++ true ∷ []) = let p = longer (front ++ false ∷ []) true (t + 1) at_1 in omega arith in
-      (read_at front (true ∷ (arrived ps ++ back)) false t e at, read_at (front ++ false ∷ []) (arrived ps ++ back) true (t + 1) one at_1, arrived_at ps ((front ++ false ∷ []) ++ true ∷ []) back (t + 2) two at_2)
 
 begins_at : (r : Range) → Holds r 0 → first_in r ≤ 0
 begins_at r h = let from = h.0 in let past = h.1 in let e : nat_lt r.from r.past ≡ true = grind (arith, nat_tests) in

@@ -10,5 +10,6 @@ pub mod Functions
 pub mod Written
 pub mod Whole
 pub mod Example
+pub mod Clear
 pub mod Compiled
 pub mod CompiledExample

@@ -12,10 +12,16 @@ ghost use Rattle.obj_file.specs.Stored.{Stored};
 ghost use Rattle.fat_ir.specs.Calls.{Callee};
 ghost use Rattle.fat_ir.specs.Functions.{Linked, program_run, symbols_of};
 ghost use Rattle.fat_ir.specs.Values.{Value};
-ghost use Rattle.bounds_plan.specs.Compiled.{FitsProgram, all_compiled, parameters_of};
+ghost use Rattle.bounds_plan.specs.Code.{fat_function};
+ghost use Rattle.bounds_plan.specs.Compiled.{FitsFunction, FitsProgram, all_compiled, parameters_of};
 ghost use Rattle.bounds_plan.specs.Follows.{outcome_of};
-ghost use Rattle.bounds_plan.specs.Functions.{Linked as LinkedInC, program_run as program_run_in_c};
+ghost use Rattle.bounds_plan.specs.Functions.{FunctionOfC, Linked as LinkedInC, program_run as program_run_in_c};
 ghost use Rattle.step_code.specs.Steps.{Plan};
+ghost use Rattle.reg_assign.specs.declared.homes.Homes.{Homes};
+ghost use Rattle.reg_assign.specs.Granted.{AreGranted};
+ghost use Rattle.reg_assign.specs.Homes.{AreHomes};
+ghost use Rattle.reg_assign.specs.Laws.{HasHomes};
+ghost use Rattle.asked_steps.specs.Wishes.{parameters_wish};
 ghost use Rattle.code_laws.specs.Runs.{Calls as CallsInCode};
 ghost use Rattle.code_laws.specs.Seen.{IsSetting};
 ghost use Rattle.legacy_calls.specs.Legacy.{Linkage, outside};
@@ -26,7 +32,7 @@ ghost use Rattle.gate_laws.specs.Owed.{IsLinked, IsLoaded, Layers};
 ghost use Rattle.gate_laws.specs.Placed.{HasCode};
 ghost use Rattle.gate_laws.specs.Standing.{AtCall};
 ghost use Rattle.program_laws.specs.Borders.{setting_of};
-ghost use Rattle.program_laws.specs.Compiled.{HasCompiled};
+ghost use Rattle.program_laws.specs.Compiled.{AreClear, HasCompiled};
 ghost use Rattle.program_laws.specs.CompiledExample.{linkage_of_c, image_of_c, no_places, inner_of_c, stubs_of_c, program_of_c, names};
 ghost use Rattle.program_laws.specs.Entering.{EntersFunction};
 ghost use Rattle.program_laws.specs.Examples.{linkage, image, places, program, inner_at, stubs_at, why_of};
@@ -94,6 +100,14 @@ pub fn images_end_as_their_sources_mean()
         → (input : List ℕ) → InputFits input → (turns : ℕ) (log : Log)
         → ProgramEnds k image places (moment_at_start k y input turns)
         (outcome_of (program_run_in_c program (outside_of_c k) main (world_at_start bytes input turns) log)) }
+{}
+
+/// No home of a parameter holds an argument that is still to come, in a plan that has the homes that are assigned to a function's values
+/// where those of its parameters wish for registers.
+pub fn assigned_homes_hold_no_argument_to_come()
+    ensures { (count : ℕ → ℕ) (f : FunctionOfC) → FitsFunction count f → (name : ℕ) (h : Homes) (units : ℕ) (p : Plan)
+        → HasHomes (fat_function name f) h units p → AreHomes (fat_function name f) h → length (parameters_wish f).numbers ≤ 6
+        → AreGranted (parameters_wish f) h → (first : ℕ → ℕ) → AreClear p first 0 (length f.privates) 0 0 f.parameters }
 {}
 
 /// The functions of a compiled program are as is owed, where the image has the code of each, its signature tells its parameters, its homes

@@ -9,7 +9,8 @@ mod laws;
 
 pub use laws::{
     a_compiled_image_meets_what_is_asked, a_small_image_meets_what_is_asked,
-    calls_at_the_border_are_calls_of_code, entries_lead_to_the_first_step,
-    functions_do_their_steps, functions_meet_what_gates_ask, images_end_as_their_sources_mean,
-    images_end_as_their_steps_do, images_of_compiled_programs_end_as_they_mean,
+    assigned_homes_hold_no_argument_to_come, calls_at_the_border_are_calls_of_code,
+    entries_lead_to_the_first_step, functions_do_their_steps, functions_meet_what_gates_ask,
+    images_end_as_their_sources_mean, images_end_as_their_steps_do,
+    images_of_compiled_programs_end_as_they_mean,
 };
