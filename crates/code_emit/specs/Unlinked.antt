@@ -1,7 +1,9 @@
 -- The bytes of code before it is linked: the fields that the linker fills hold 0, and each symbol stands at 0.
-use Rattle.std.specs.Prelude.{ℕ, ◌+◌, true, false, pos, Some, List, [], ◌∷◌, ◌++◌, slice_index_or, slice_set}
+use Rattle.std.specs.Prelude.{ℕ, ◌+◌, true, false, if◌then◌else◌, pos, Some, List, [], ◌∷◌, ◌++◌, map, slice_index_or, slice_set}
+use Rattle.mx_base.specs.StopOfC.{AccessOfC}
 use Rattle.x86_forms.specs.declared.instr.Instr.TheVariants.{CallRel}
 use Rattle.x86_forms.specs.Spelling.{spelling}
+use Rattle.obj_file.specs.declared.object.Spot3.{Spot3}
 use Rattle.fat_ir.specs.declared.program.FatFun.{FatFun}
 use Rattle.fat_ir.specs.declared.step.FatStep.{FatStep}
 use Rattle.fat_ir.specs.declared.step.FatStep.TheVariants as s
@@ -13,7 +15,7 @@ use Rattle.step_code.specs.Steps.{Plan, lower, load_args, end_pieces}
 use Rattle.step_code.specs.Entry.{inner_entry, inner_return}
 use Rattle.step_code.specs.Functions.{plain}
 use Rattle.step_code.specs.Homing.{homing}
-use Rattle.step_code.specs.Bytes.{size_of_piece, size_of_pieces, size_of_steps}
+use Rattle.step_code.specs.Bytes.{size_of_piece, size_of_pieces, size_of_steps, places_of_step, places_of_steps}
 use Rattle.code_emit.specs.declared.fields.Field.{Field}
 
 -- a call goes on behind itself until the linker fills its field
@@ -99,3 +101,21 @@ fields_of_step p at step = []
 abbrev pub fields_of_steps : Plan → (at : ℕ) → List FatStep → List Field
 fields_of_steps p at [] = []
 fields_of_steps p at (step ∷ steps) = fields_of_step p at step ++ fields_of_steps p (at + size_of_pieces (lower p step)) steps
+
+-- ---- places of checks
+
+-- a check at an offset, as an object tells it
+abbrev pub spot_of : ℕ × AccessOfC → Spot3
+spot_of check = record {
+  offset = check.0;
+  line = check.1.place.line;
+  col = check.1.place.col;
+  kind = if check.1.write then 2 else 1;
+  size = check.1.size;
+}
+
+abbrev pub spots_of_step : Plan → (at : ℕ) → FatStep → List Spot3
+spots_of_step p at step = map spot_of (places_of_step p at step)
+
+abbrev pub spots_of_steps : Plan → (at : ℕ) → List FatStep → List Spot3
+spots_of_steps p at steps = map spot_of (places_of_steps p at steps)

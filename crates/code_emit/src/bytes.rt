@@ -163,7 +163,7 @@ fn instr(piece: Piece, labels: &[u32], next: u32) -> Result<Instr, OutOfMemory>
 
 /// How many bytes a piece has, wherever it stands.
 #[tactic(auto, using(crate::proofs::Sized::blank_size))]
-fn size_of(piece: Piece) -> Result<u32, OutOfMemory>
+pub fn size_of(piece: Piece) -> Result<u32, OutOfMemory>
     ensures { IfOk result (λ n. n ≡ size_of_piece piece) }
 {
     let i = instr(piece, &[], 0)?;

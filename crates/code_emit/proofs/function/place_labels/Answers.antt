@@ -1,5 +1,5 @@
 use Rattle.std.specs.Prelude.{slice_set}
-use Rattle.std.proofs.Common.{◌≡◌, ◌+◌, ◌++◌, ◌∙◌, List, ℕ, ap}
+use Rattle.std.proofs.Common.{◌+◌, ◌++◌, ◌∙◌, List, ℕ, ap}
 use Rattle.step_code.specs.declared.pieces.Piece.{Piece}
 use Rattle.step_code.specs.Bytes.{size_of_pieces, size_of_steps}
 use Rattle.step_code.specs.Homing.{homing}

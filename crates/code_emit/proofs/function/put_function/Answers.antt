@@ -1,4 +1,4 @@
-use Rattle.std.proofs.Common.{◌≡◌, ◌++◌, ◌∙◌, List, ℕ, ap, length}
+use Rattle.std.proofs.Common.{◌++◌, ◌∙◌, List, ℕ, ap, length}
 use Rattle.fat_ir.specs.declared.step.FatStep.{FatStep}
 use Rattle.step_code.specs.declared.pieces.Piece.{Piece}
 use Rattle.step_code.specs.Entry.{inner_entry, inner_return}
