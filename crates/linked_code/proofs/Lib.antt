@@ -1,0 +1,6 @@
+mod Bytes
+mod Quiet
+mod Same
+mod Going
+mod Labels
+mod Linker
