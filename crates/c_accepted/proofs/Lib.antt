@@ -1,19 +1,19 @@
 mod Apart
-mod Bodies
+pub mod Bodies
 mod Both
-mod Closing
-mod ClosingBodies
+pub mod Closing
+pub mod ClosingBodies
 mod Copies
-mod Declaring
-mod Elaborating
-mod Empty
-mod Expressions
-mod Filling
+pub mod Declaring
+pub mod Elaborating
+pub mod Empty
+pub mod Expressions
+pub mod Filling
 mod Framing
-mod Gives
-mod Going
-mod Heads
-mod Limits
+pub mod Gives
+pub mod Going
+pub mod Heads
+pub mod Limits
 mod Linking
 mod Links
 mod LiteralBodies
@@ -23,18 +23,18 @@ mod Literals
 mod Making
 mod Meaning
 mod Meeting
-mod Moving
+pub mod Moving
 mod Naming
 mod Numbering
-mod Owns
+pub mod Owns
 mod Places
 mod Planning
-mod Small
-mod Sizing
+pub mod Small
+pub mod Sizing
 mod SizingNodes
-mod Sourcing
-mod Stating
-mod Structures
+pub mod Sourcing
+pub mod Stating
+pub mod Structures
 mod Taking
-mod Variables
-mod Wholes
+pub mod Variables
+pub mod Wholes

@@ -1,0 +1,5 @@
+mod Sizes
+mod Closing
+mod Called
+mod Expressions
+mod ClosingBodies

@@ -1,0 +1,6 @@
+//! That the trees of accepted sources are what code asks of trees; laws alone.
+#![tactic(auto)]
+
+mod laws;
+
+pub use laws::expressions_keep_to_limits;
