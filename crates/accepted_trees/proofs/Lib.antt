@@ -3,3 +3,5 @@ mod Closing
 mod Called
 mod Expressions
 mod ClosingBodies
+mod Initialisers
+mod Statements

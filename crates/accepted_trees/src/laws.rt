@@ -2,16 +2,23 @@
 
 ghost use Rattle.std.specs.Prelude.{◌≡◌, ◌≤◌, ℕ, Bool, true, Option, List, [], length};
 ghost use Rattle.c_tree.specs.declared.tree.Expr.{Expr as ExprOf};
-ghost use Rattle.c_tree.specs.Formed.{formed_expr};
+ghost use Rattle.c_tree.specs.declared.tree.Stmt.{Stmt as StmtOf};
+ghost use Rattle.c_tree.specs.Formed.{formed_expr, formed_stmt};
 ghost use Rattle.c_check_rules.specs.declared.names.Scope.{Scope as ScopeOf};
 ghost use Rattle.c_check_typing.specs.declared.typed.Notes.{Notes as NotesOf};
 ghost use Rattle.c_check_typing.specs.Expressions.{seen};
+ghost use Rattle.c_check_statements.specs.declared.state.State.{State as StateOf};
+ghost use Rattle.c_check_statements.specs.Statements.{statement};
+ghost use Rattle.c_check.specs.Standing.{structs_seen};
 ghost use Rattle.fat_ir.specs.Step.{Located};
+ghost use Rattle.bounds_plan.specs.ElaborateTypes.{sort_of};
 ghost use Rattle.bounds_plan.specs.ElaborateSource.{Reached, Around};
 ghost use Rattle.bounds_plan.specs.ElaborateExpressions.{expression};
+ghost use Rattle.bounds_plan.specs.ElaborateInitialisers.{initialiser};
+ghost use Rattle.bounds_plan.specs.ElaborateStatements.{statement_by};
 ghost use Rattle.c_accepted.specs.Alike.{meanings_of, signatures_seen, IsAt, Front};
-ghost use Rattle.asked_steps.specs.Trees.{EffectWithin};
-ghost use Rattle.accepted_trees.specs.Limits.{MeaningsWithin, AroundWithin};
+ghost use Rattle.asked_steps.specs.Trees.{EffectWithin, StatementWithin};
+ghost use Rattle.accepted_trees.specs.Limits.{MeaningsWithin, AroundWithin, gives_pointer};
 
 /// An expression without broken rules keeps to the limits of code, where the types that are noted by then have small sizes, the functions
 /// around it are those that the checker knows, and what else is around it keeps to them.
@@ -23,4 +30,17 @@ pub fn expressions_keep_to_limits()
         → MeaningsWithin around.structs (meanings_of ((seen x functions scope).after n))
         → around.signatures ≡ signatures_seen scope.functions → AroundWithin located returns takes around
         → EffectWithin located pointer returns takes (expression x around r).effect }
+{}
+
+/// A statement without broken rules keeps to the limits of code, with the initialisers of its variables, where the same holds of what is
+/// around it, and where a function gives a pointer exactly if it is one that its result is.
+pub fn statements_keep_to_limits()
+    ensures { (located : ℕ → Located) (pointer : Bool) (returns : ℕ → Bool) (takes : ℕ → List (ℕ × Option ℕ) → Bool)
+        (x : StmtOf) (state : StateOf) → formed_stmt x ≡ true → (statement x state).broken ≡ []
+        → length state.scope.functions ≤ 4294967295 → (around : Around) (r : Reached)
+        → Front (meanings_of (statement x state).state.notes) around.meanings → IsAt r (meanings_of state.notes)
+        → MeaningsWithin around.structs (meanings_of (statement x state).state.notes)
+        → around.structs ≡ structs_seen state.scope.structs → around.signatures ≡ signatures_seen state.scope.functions
+        → AroundWithin located returns takes around → pointer ≡ gives_pointer (sort_of around.result)
+        → StatementWithin located pointer returns takes (statement_by expression (initialiser expression) x around r).statement }
 {}

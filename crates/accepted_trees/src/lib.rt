@@ -3,4 +3,4 @@
 
 mod laws;
 
-pub use laws::expressions_keep_to_limits;
+pub use laws::{expressions_keep_to_limits, statements_keep_to_limits};

@@ -56,18 +56,18 @@ pub record FillAlike (b : c.Filling × Filling) : Type 0 where
 
 -- ---- one expression
 
-filling_broken : (b : Bool) (s : Seen) → (filling b s).broken ≡ [] → s.broken ≡ []
+pub filling_broken : (b : Bool) (s : Seen) → (filling b s).broken ≡ [] → s.broken ≡ []
 unfolding unevaluated
 filling_broken true s h = h
 filling_broken false s h = h
 
-filling_goes : (b : Bool) (s : Seen) (p : Around → Reached → Reached) → Goes s.after p → Goes (filling b s).after p
+pub filling_goes : (b : Bool) (s : Seen) (p : Around → Reached → Reached) → Goes s.after p → Goes (filling b s).after p
 unfolding unevaluated
 filling_goes true s p g = record { on = λ n. g.on n; still = λ n. g.still n; at = λ n around r w h. g.at n around r w h }
 filling_goes false s p g = g
 
 -- texts are no part of what is noted
-same_place : (type : CType) (before after : Reached) (m : Meanings) → IsAt after m → IsAt (after_one type before after) m
+pub same_place : (type : CType) (before after : Reached) (m : Meanings) → IsAt after m → IsAt (after_one type before after) m
 same_place Void before after m h = h
 same_place (Int kind) before after m h = h
 same_place (Pointer target) before after m h = h
@@ -75,7 +75,7 @@ same_place (Array element count) before after m h = record { kind = h.kind; name
 same_place (Struct number) before after m h = h
 
 -- the words of globals are no part of what is noted either
-word_moves : (around : Around) (word : Option ℕ) (state : State) → Moves around state (notes_word word state).state 0 (λ r. r)
+pub word_moves : (around : Around) (word : Option ℕ) (state : State) → Moves around state (notes_word word state).state 0 (λ r. r)
 unfolding notes_word
 word_moves around None state = moves_not around state
 word_moves around (Some word) state = record {
@@ -83,7 +83,7 @@ word_moves around (Some word) state = record {
   at = λ r w at. at;
 }
 
-one_moves : (x : Expr) (place : Place) (filled : Filled) (target : CType) (state : State) (around : Around) → (one filled (Some target) place x state).broken ≡ []
+pub one_moves : (x : Expr) (place : Place) (filled : Filled) (target : CType) (state : State) (around : Around) → (one filled (Some target) place x state).broken ≡ []
     → Moves around state (one filled (Some target) place x state).state 0 (λ r. after_one target r (expression x around r).after)
 one_moves x place filled target state around h =
     let s = seen_in state x in let fills = fills_target (Some target) s.typed in let judge = at_node place (one_kinds filled (Some target) s.typed) in let word = one_word filled (Some target) s.typed in
@@ -95,12 +95,12 @@ one_moves x place filled target state around h =
       at = λ r w at. same_place target r (expression x around r).after _ (go.at r w at);
     } (walks_then around judge (notes_word word) mid 0 0 (λ r. r) (λ r. r) (walks_node around place (one_kinds filled (Some target) s.typed) mid) (word_moves around word (judge mid).state))
 
-filling_front : (b : Bool) (s : Seen) (n : Notes) (w : Meanings) → Front (meanings_of ((filling b s).after n)) w → Front (meanings_of (s.after n)) w
+pub filling_front : (b : Bool) (s : Seen) (n : Notes) (w : Meanings) → Front (meanings_of ((filling b s).after n)) w → Front (meanings_of (s.after n)) w
 unfolding unevaluated
 filling_front true s n w f = f
 filling_front false s n w f = f
 
-one_wholes : (x : Expr) (place : Place) (filled : Filled) (target : CType) (state : State) (around : Around) (l : Lvalue) (offset : ℕ) → (one filled (Some target) place x state).broken ≡ []
+pub one_wholes : (x : Expr) (place : Place) (filled : Filled) (target : CType) (state : State) (around : Around) (l : Lvalue) (offset : ℕ) → (one filled (Some target) place x state).broken ≡ []
     → (variables : List Variable) → KnownBy variables state.scope.variables → WholePlace variables around l → (r : Reached) → Front (meanings_of (one filled (Some target) place x state).state.notes) around.meanings → IsAt r (meanings_of state.notes) → WholeEffects variables around (one_filled around target place l offset (expression x around r))
 unfolding ◌then◌
 one_wholes x place filled target state around l offset h variables k whole r w at =
@@ -113,35 +113,35 @@ one_wholes x place filled target state around l offset h variables k whole r w a
 
 -- ---- a list in braces
 
-abbrev FillA : Type 0
+abbrev pub FillA : Type 0
 FillA = (Place → c.Filling) × (Place → Filling)
 
-abbrev FillB : Type 0
+abbrev pub FillB : Type 0
 FillB = c.Filling × Filling
 
-abbrev fill_both : InitKind-F FillA FillB → FillA
+abbrev pub fill_both : InitKind-F FillA FillB → FillA
 fill_both y = (c.init_step (nf.map-InitKind FillA FillB (Place → c.Filling) c.Filling (λ a. a.0) (λ b. b.0) y), init_step expression (nf.map-InitKind FillA FillB (Place → Filling) Filling (λ a. a.1) (λ b. b.1) y))
 
-abbrev fill_struct : Init-F FillA FillB → FillB
+abbrev pub fill_struct : Init-F FillA FillB → FillB
 fill_struct x = (x.kind.0 x.place, x.kind.1 x.place)
 
-abbrev FillAlikeAt : FillA → Type 0
+abbrev pub FillAlikeAt : FillA → Type 0
 FillAlikeAt a = (place : Place) → FillAlike (a.0 place, a.1 place)
 
-abbrev PartsA : Type 0
+abbrev pub PartsA : Type 0
 PartsA = InitA FillA FillB fill_both fill_struct FillAlikeAt FillAlike
 
-abbrev PartsB : Type 0
+abbrev pub PartsB : Type 0
 PartsB = InitB FillA FillB fill_both fill_struct FillAlikeAt FillAlike
 
-abbrev checks : List PartsB → List c.Filling
+abbrev pub checks : List PartsB → List c.Filling
 checks all = map (λ b. b.0) (map (λ y. y.0) all)
 
-abbrev fills : List PartsB → List Filling
+abbrev pub fills : List PartsB → List Filling
 fills all = map (λ b. b.1) (map (λ y. y.0) all)
 
 -- the first part, and the others behind it
-part_first : (x : PartsB) (more : List PartsB) (filled : Filled) (target : CType) (at : ℕ) (type : CType) (state : State) (around : Around) → Knows around state → (l : Lvalue) (offset : ℕ)
+pub part_first : (x : PartsB) (more : List PartsB) (filled : Filled) (target : CType) (at : ℕ) (type : CType) (state : State) (around : Around) → Knows around state → (l : Lvalue) (offset : ℕ)
     → part_of state.scope.structs (Some target) at ≡ Some type → (parts filled (Some target) at (checks (x ∷ more)) state).broken ≡ []
     → Moves around state (part_walk filled (Some target) at x.0.0 state).state 0 (λ r. (x.0.1 around type l offset r).after)
 part_first x more filled target at type state around knows l offset is h =
@@ -149,7 +149,7 @@ part_first x more filled target at type state around knows l offset is h =
     subst (λ o. (x.0.0 (part filled) o state).broken ≡ [] → Moves around state (x.0.0 (part filled) o state).state 0 (λ r. (x.0.1 around type l offset r).after)) (sym is)
     (x.1.moves (part filled) type state around knows l offset) none
 
-elements_move : (all : List PartsB) (filled : Filled) (place : Place) (element : CType) (whole at count size : ℕ) (state : State) (around : Around) → Knows around state → (l : Lvalue) (offset : ℕ)
+pub elements_move : (all : List PartsB) (filled : Filled) (place : Place) (element : CType) (whole at count size : ℕ) (state : State) (around : Around) → Knows around state → (l : Lvalue) (offset : ℕ)
     → at + count ≡ whole → length all ≤ count → (parts filled (Some (Array element whole)) at (checks all) state).broken ≡ []
     → Moves around state (parts filled (Some (Array element whole)) at (checks all) state).state 0 (λ r. (elements_filled (fills all) around element place size count l offset r).after)
 elements_move [] filled place element whole at count size state around knows l offset e le h = moves_not around state
@@ -164,12 +164,12 @@ elements_move (x ∷ more) filled place element whole at (suc n) size state arou
     walks_then around (part_walk filled (Some (Array element whole)) at x.0.0) (parts filled (Some (Array element whole)) (at + 1) (checks more)) state 0 0 _ _ first rest
 
 -- the types of the members from a place on
-record RestIs (members : List Member) (at : ℕ) (types : List CType) : Type 0 where
-  before : List CType
-  is : kinds_in members ≡ before ++ types
-  at_end : length before ≡ at
+pub record RestIs (members : List Member) (at : ℕ) (types : List CType) : Type 0 where
+  pub before : List CType
+  pub is : kinds_in members ≡ before ++ types
+  pub at_end : length before ≡ at
 
-member_there : (members : List Member) (before types : List CType) (t : CType) (at : ℕ) → kinds_in members ≡ before ++ (t ∷ types) → length before ≡ at → member_kind (slice_get members at) ≡ Some t
+pub member_there : (members : List Member) (before types : List CType) (t : CType) (at : ℕ) → kinds_in members ≡ before ++ (t ∷ types) → length before ≡ at → member_kind (slice_get members at) ≡ Some t
 member_there [] [] types t at e l = cc
 member_there [] (b ∷ before) types t at e l = cc
 member_there (m ∷ members) [] types t zero e l = cc
@@ -177,10 +177,10 @@ member_there (m ∷ members) [] types t (suc at) e l = absurd (omega arith)
 member_there (m ∷ members) (b ∷ before) types t zero e l = absurd (omega arith)
 member_there (m ∷ members) (b ∷ before) types t (suc at) e l = (let rest : kinds_in members ≡ before ++ (t ∷ types) = cc in let end : length before ≡ at = omega arith in member_there members before types t at rest end)
 
-rest_on : (members : List Member) (at : ℕ) (t : CType) (types : List CType) → RestIs members at (t ∷ types) → RestIs members (at + 1) types
+pub rest_on : (members : List Member) (at : ℕ) (t : CType) (types : List CType) → RestIs members at (t ∷ types) → RestIs members (at + 1) types
 rest_on members at t types h = record { before = h.before ++ (t ∷ []); is = h.is ∙ sym (append_assoc h.before (t ∷ []) types); at_end = omega (arith, length-append h.before (t ∷ []), h.at_end) }
 
-members_move : (all : List PartsB) (filled : Filled) (place : Place) (number at : ℕ) (types : List CType) (offsets : List ℕ) (state : State) (around : Around) → Knows around state → (l : Lvalue) (offset : ℕ)
+pub members_move : (all : List PartsB) (filled : Filled) (place : Place) (number at : ℕ) (types : List CType) (offsets : List ℕ) (state : State) (around : Around) → Knows around state → (l : Lvalue) (offset : ℕ)
     → RestIs (struct_members state.scope.structs number) at types → length types ≡ length offsets → length all ≤ length types → (parts filled (Some (Struct number)) at (checks all) state).broken ≡ []
     → Moves around state (parts filled (Some (Struct number)) at (checks all) state).state 0 (λ r. (members_filled (fills all) around place types offsets l offset r).after)
 members_move [] filled place number at types offsets state around knows l offset rest e le h = moves_not around state
@@ -196,26 +196,26 @@ members_move (x ∷ more) filled place number at (t ∷ ts) (o ∷ os) state aro
 
 -- ---- a list fills an array or a struct
 
-as_many : {X Y : Type 0} (f : X → Y) (xs : List X) → length (map f xs) ≡ length xs
+pub as_many : {X Y : Type 0} (f : X → Y) (xs : List X) → length (map f xs) ≡ length xs
 as_many f [] = refl
 as_many f (x ∷ xs) = ap suc (as_many f xs)
 
-as_many_offsets : (layouts : List Layout) (free : ℕ) → length (offsets_from free layouts) ≡ length layouts
+pub as_many_offsets : (layouts : List Layout) (free : ℕ) → length (offsets_from free layouts) ≡ length layouts
 as_many_offsets [] free = refl
 as_many_offsets (m ∷ ms) free = ap suc (as_many_offsets ms (next_multiple free m.align + m.size))
 
-as_many_fills : (all : List PartsB) → length (checks all) ≡ length all
+pub as_many_fills : (all : List PartsB) → length (checks all) ≡ length all
 as_many_fills [] = refl
 as_many_fills (x ∷ all) = ap suc (as_many_fills all)
 
-judged_broken : (place : Place) (kinds : List _) (state : State) → (at_node place kinds state).broken ≡ [] → kinds ≡ []
+pub judged_broken : (place : Place) (kinds : List _) (state : State) → (at_node place kinds state).broken ≡ [] → kinds ≡ []
 unfolding at_node
 judged_broken place kinds state h = none_at place kinds h
 
-uncrowded : (kind : CType) (state : State) (place : Place) (count : ℕ) → (many_judged (Some kind) count place state).broken ≡ [] → is_crowded state.scope.structs (outer_of kind) count ≡ false
+pub uncrowded : (kind : CType) (state : State) (place : Place) (count : ℕ) → (many_judged (Some kind) count place state).broken ≡ [] → is_crowded state.scope.structs (outer_of kind) count ≡ false
 uncrowded kind state place count h = not_broken BadType _ (judged_broken place (many_kinds state.scope.structs (Some kind) count) state h)
 
-parts_grow : (all : List PartsB) (filled : Filled) (place : Place) (target : CType) (state : State) (around : Around) → Knows around state → (l : Lvalue) (offset : ℕ)
+pub parts_grow : (all : List PartsB) (filled : Filled) (place : Place) (target : CType) (state : State) (around : Around) → Knows around state → (l : Lvalue) (offset : ℕ)
     → is_crowded state.scope.structs (outer_of target) (length all) ≡ false → (parts filled (Some target) 0 (checks all) state).broken ≡ []
     → Moves around state (parts filled (Some target) 0 (checks all) state).state 0 (λ r. (many_filled (fills all) place around target l offset r).after)
 parts_grow all filled place Void state around knows l offset few h = cc
@@ -232,27 +232,27 @@ parts_grow all filled place (Struct number) state around knows l offset few h =
     (omega (arith, many, not_above (length (struct_members state.scope.structs number)) (length all) few)) h
 
 -- the structs after the parts are those before
-parts_keep : (all : List PartsB) (filled : Filled) (target : Option CType) (at : ℕ) (state : State) → (parts filled target at (checks all) state).state.scope.structs ≡ state.scope.structs
+pub parts_keep : (all : List PartsB) (filled : Filled) (target : Option CType) (at : ℕ) (state : State) → (parts filled target at (checks all) state).state.scope.structs ≡ state.scope.structs
 unfolding ◌then◌
 parts_keep [] filled target at state = refl
 parts_keep (x ∷ more) filled target at state = parts_keep more filled target (at + 1) (x.0.0 (part filled) (part_of state.scope.structs target at) state).state ∙ x.1.keeps (part filled) (part_of state.scope.structs target at) state
 
-one_keeps : (x : Expr) (place : Place) (filled : Filled) (target : Option CType) (state : State) → (one filled target place x state).state.scope.structs ≡ state.scope.structs
+pub one_keeps : (x : Expr) (place : Place) (filled : Filled) (target : Option CType) (state : State) → (one filled target place x state).state.scope.structs ≡ state.scope.structs
 unfolding ◌then◌ past at_node notes_word
 one_keeps x place filled target state = refl
 
-many_keeps : (all : List PartsB) (place : Place) (filled : Filled) (target : Option CType) (state : State) → ((parts filled target 0 (checks all) then many_judged target (length (checks all)) place) state).state.scope.structs ≡ state.scope.structs
+pub many_keeps : (all : List PartsB) (place : Place) (filled : Filled) (target : Option CType) (state : State) → ((parts filled target 0 (checks all) then many_judged target (length (checks all)) place) state).state.scope.structs ≡ state.scope.structs
 unfolding ◌then◌ at_node
 many_keeps all place filled target state = parts_keep all filled target 0 state
 
-crowded_before : (all : List PartsB) (filled : Filled) (place : Place) (target : CType) (state : State)
+pub crowded_before : (all : List PartsB) (filled : Filled) (place : Place) (target : CType) (state : State)
     → ((parts filled (Some target) 0 (checks all) then many_judged (Some target) (length (checks all)) place) state).broken ≡ [] → is_crowded state.scope.structs (outer_of target) (length all) ≡ false
 crowded_before all filled place target state h =
     let walk = parts filled (Some target) 0 (checks all) in
     let there = uncrowded target (walk state).state place (length (checks all)) (second_broken walk (many_judged (Some target) (length (checks all)) place) state h) in
     subst (λ n. is_crowded state.scope.structs (outer_of target) n ≡ false) (as_many_fills all) (subst (λ structs. is_crowded structs (outer_of target) (length (checks all)) ≡ false) (parts_keep all filled (Some target) 0 state) there)
 
-many_moves : (all : List PartsB) (place : Place) (filled : Filled) (target : CType) (state : State) (around : Around) → Knows around state → (l : Lvalue) (offset : ℕ)
+pub many_moves : (all : List PartsB) (place : Place) (filled : Filled) (target : CType) (state : State) (around : Around) → Knows around state → (l : Lvalue) (offset : ℕ)
     → ((parts filled (Some target) 0 (checks all) then many_judged (Some target) (length (checks all)) place) state).broken ≡ []
     → Moves around state ((parts filled (Some target) 0 (checks all) then many_judged (Some target) (length (checks all)) place) state).state 0 (λ r. (many_filled (fills all) place around target l offset r).after)
 many_moves all place filled target state around knows l offset h = let walk = parts filled (Some target) 0 (checks all) in
@@ -261,7 +261,7 @@ many_moves all place filled target state around knows l offset h = let walk = pa
 
 -- ---- the globals that it names
 
-part_wholes : (x : PartsB) (more : List PartsB) (filled : Filled) (target : CType) (at : ℕ) (type : CType) (state : State) (around : Around) → Knows around state → (l : Lvalue) (offset : ℕ)
+pub part_wholes : (x : PartsB) (more : List PartsB) (filled : Filled) (target : CType) (at : ℕ) (type : CType) (state : State) (around : Around) → Knows around state → (l : Lvalue) (offset : ℕ)
     → part_of state.scope.structs (Some target) at ≡ Some type → (parts filled (Some target) at (checks (x ∷ more)) state).broken ≡ []
     → (variables : List Variable) → KnownBy variables state.scope.variables → WholePlace variables around l → (r : Reached) → Front (meanings_of (part_walk filled (Some target) at x.0.0 state).state.notes) around.meanings → IsAt r (meanings_of state.notes) → WholeEffects variables around (x.0.1 around type l offset r).effects
 part_wholes x more filled target at type state around knows l offset is h variables k whole r w here =
@@ -269,7 +269,7 @@ part_wholes x more filled target at type state around knows l offset is h variab
     subst (λ o. (x.0.0 (part filled) o state).broken ≡ [] → Front (meanings_of (x.0.0 (part filled) o state).state.notes) around.meanings → WholeEffects variables around (x.0.1 around type l offset r).effects) (sym is)
     (λ none w. x.1.names (part filled) type state around knows l offset none variables k whole r w here) none w
 
-elements_wholes : (all : List PartsB) (filled : Filled) (place : Place) (element : CType) (many at count size : ℕ) (state : State) (around : Around) → Knows around state → (l : Lvalue) (offset : ℕ)
+pub elements_wholes : (all : List PartsB) (filled : Filled) (place : Place) (element : CType) (many at count size : ℕ) (state : State) (around : Around) → Knows around state → (l : Lvalue) (offset : ℕ)
     → at + count ≡ many → length all ≤ count → (parts filled (Some (Array element many)) at (checks all) state).broken ≡ []
     → (variables : List Variable) → KnownBy variables state.scope.variables → WholePlace variables around l → (r : Reached) → Front (meanings_of (parts filled (Some (Array element many)) at (checks all) state).state.notes) around.meanings → IsAt r (meanings_of state.notes) → WholeEffects variables around (elements_filled (fills all) around element place size count l offset r).effects
 unfolding ◌then◌
@@ -287,7 +287,7 @@ elements_wholes (x ∷ more) filled place element many at (suc n) size state aro
     append_names _ _ _ (x.0.1 around element l offset r).effects _ (part_wholes x more filled (Array element many) at element state around knows l offset is h variables k whole r w0 here)
     (elements_wholes more filled place element many (at + 1) n size mid around knows1 l (offset + size) (omega arith) (omega arith) none variables (known_on variables _ _ first.grows.variables k) whole (x.0.1 around element l offset r).after w (first.at r w0 here))
 
-members_wholes : (all : List PartsB) (filled : Filled) (place : Place) (number at : ℕ) (types : List CType) (offsets : List ℕ) (state : State) (around : Around) → Knows around state → (l : Lvalue) (offset : ℕ)
+pub members_wholes : (all : List PartsB) (filled : Filled) (place : Place) (number at : ℕ) (types : List CType) (offsets : List ℕ) (state : State) (around : Around) → Knows around state → (l : Lvalue) (offset : ℕ)
     → RestIs (struct_members state.scope.structs number) at types → length types ≡ length offsets → length all ≤ length types → (parts filled (Some (Struct number)) at (checks all) state).broken ≡ []
     → (variables : List Variable) → KnownBy variables state.scope.variables → WholePlace variables around l → (r : Reached) → Front (meanings_of (parts filled (Some (Struct number)) at (checks all) state).state.notes) around.meanings → IsAt r (meanings_of state.notes) → WholeEffects variables around (members_filled (fills all) around place types offsets l offset r).effects
 unfolding ◌then◌
@@ -306,7 +306,7 @@ members_wholes (x ∷ more) filled place number at (t ∷ ts) (o ∷ os) state a
     append_names _ _ _ (x.0.1 around t l (offset + o) r).effects _ (part_wholes x more filled (Struct number) at t state around knows l (offset + o) is h variables k whole r w0 here)
     (members_wholes more filled place number (at + 1) ts os mid around knows1 l offset there (omega arith) (omega arith) none variables (known_on variables _ _ first.grows.variables k) whole (x.0.1 around t l (offset + o) r).after w (first.at r w0 here))
 
-parts_wholes : (all : List PartsB) (filled : Filled) (place : Place) (target : CType) (state : State) (around : Around) → Knows around state → (l : Lvalue) (offset : ℕ)
+pub parts_wholes : (all : List PartsB) (filled : Filled) (place : Place) (target : CType) (state : State) (around : Around) → Knows around state → (l : Lvalue) (offset : ℕ)
     → is_crowded state.scope.structs (outer_of target) (length all) ≡ false → (parts filled (Some target) 0 (checks all) state).broken ≡ []
     → (variables : List Variable) → KnownBy variables state.scope.variables → WholePlace variables around l → (r : Reached) → Front (meanings_of (parts filled (Some target) 0 (checks all) state).state.notes) around.meanings → IsAt r (meanings_of state.notes) → WholeEffects variables around (many_filled (fills all) place around target l offset r).effects
 parts_wholes all filled place Void state around knows l offset few h variables k whole r w here = tt
@@ -322,7 +322,7 @@ parts_wholes all filled place (Struct number) state around knows l offset few h 
     members_wholes all filled place number 0 types offsets state around knows l offset record { before = []; is = sym seen; at_end = refl } placed
     (omega (arith, many, not_above (length (struct_members state.scope.structs number)) (length all) few)) h variables k whole r w here
 
-many_wholes : (all : List PartsB) (place : Place) (filled : Filled) (target : CType) (state : State) (around : Around) → Knows around state → (l : Lvalue) (offset : ℕ)
+pub many_wholes : (all : List PartsB) (place : Place) (filled : Filled) (target : CType) (state : State) (around : Around) → Knows around state → (l : Lvalue) (offset : ℕ)
     → ((parts filled (Some target) 0 (checks all) then many_judged (Some target) (length (checks all)) place) state).broken ≡ []
     → (variables : List Variable) → KnownBy variables state.scope.variables → WholePlace variables around l → (r : Reached) → Front (meanings_of ((parts filled (Some target) 0 (checks all) then many_judged (Some target) (length (checks all)) place) state).state.notes) around.meanings → IsAt r (meanings_of state.notes)
     → WholeEffects variables around (many_filled (fills all) place around target l offset r).effects
@@ -330,17 +330,17 @@ unfolding ◌then◌ at_node
 many_wholes all place filled target state around knows l offset h variables k whole r w here = let walk = parts filled (Some target) 0 (checks all) in
     parts_wholes all filled place target state around knows l offset (crowded_before all filled place target state h) (first_broken walk (many_judged (Some target) (length (checks all)) place) state h) variables k whole r w here
 
-every_fill : (y : InitKind-F PartsA PartsB) → FillAlikeAt (fill_both (bare_inits FillA FillB fill_both fill_struct FillAlikeAt FillAlike y))
+pub every_fill : (y : InitKind-F PartsA PartsB) → FillAlikeAt (fill_both (bare_inits FillA FillB fill_both fill_struct FillAlikeAt FillAlike y))
 every_fill (i.One x) place = record { keeps = one_keeps x place; moves = λ filled target state around knows l offset h. one_moves x place filled target state around h; names = λ filled target state around knows l offset h. one_wholes x place filled target state around l offset h }
 every_fill (i.Many all) place = record { keeps = many_keeps all place; moves = many_moves all place; names = many_wholes all place }
 
-abbrev filled_both : Init → FillB
+abbrev pub filled_both : Init → FillB
 filled_both = fold-Init FillA FillB fill_both fill_struct
 
-checks_same : (x : Init) → (filled_both x).0 ≡ c.fills x
+pub checks_same : (x : Init) → (filled_both x).0 ≡ c.fills x
 checks_same x = inits_fused FillA FillB (Place → c.Filling) c.Filling fill_both fill_struct c.init_step (λ x. x.kind x.place) (λ a. a.0) (λ b. b.0) (λ y. refl) (λ y. refl) x
 
-fills_same : (x : Init) → (filled_both x).1 ≡ initialiser expression x
+pub fills_same : (x : Init) → (filled_both x).1 ≡ initialiser expression x
 fills_same x = inits_fused FillA FillB (Place → Filling) Filling fill_both fill_struct (init_step expression) (λ x. x.kind x.place) (λ a. a.1) (λ b. b.1) (λ y. refl) (λ y. refl) x
 
 pub initialisers_alike : (x : Init) → FillAlike (c.fills x, initialiser expression x)

@@ -47,7 +47,7 @@ use Rattle.c_accepted.proofs.Moving.{Grows, grows_then, Knows, Moves, moves_not,
 abbrev pub WholeStatement : List Variable → Around → Statement → Type 0
 WholeStatement variables around = NamesStatement (IsWhole variables around.structs around.layout) (λ offset size. Unit {0}) (λ x. Unit {0})
 
-abbrev StateB : Type 0
+abbrev pub StateB : Type 0
 StateB = Walk × Stating × ℕ
 
 -- both go through it alike, no struct is copied that is larger than may be, and each global is named whole
@@ -61,43 +61,43 @@ StateAlike b = (state : State) (around : Around) → Knows around state → (b.0
 
 -- ---- parts
 
-abbrev front_before : (around : Around) (old new : State) (count : ℕ) → Grows old new count → Front (meanings_of new.notes) around.meanings → Front (meanings_of old.notes) around.meanings
+abbrev pub front_before : (around : Around) (old new : State) (count : ℕ) → Grows old new count → Front (meanings_of new.notes) around.meanings → Front (meanings_of old.notes) around.meanings
 front_before around old new count g f = front_then (meanings_of old.notes) (meanings_of new.notes) around.meanings g.on f
 
-done_small : (o : Option Expr) (state : State) (around : Around) → (maybe_reads o state).broken ≡ [] → AreSmall around.structs → (r : Reached) → Front (meanings_of (maybe_reads o state).state.notes) around.meanings → IsAt r (meanings_of state.notes)
+pub done_small : (o : Option Expr) (state : State) (around : Around) → (maybe_reads o state).broken ≡ [] → AreSmall around.structs → (r : Reached) → Front (meanings_of (maybe_reads o state).state.notes) around.meanings → IsAt r (meanings_of state.notes)
     → OfEffect IsSmall (done_by (maybe expression o) around r).effect
 done_small None state around h small r w at = tt
 done_small (Some x) state around h small r w at = (read_alike x state h).copies state.notes around r (past_front (seen_in state x) state around.meanings w) at small
 
-read_whole : (x : Expr) (state : State) (around : Around) → (reads x state).broken ≡ [] → (variables : List Variable) → KnownBy variables state.scope.variables → (r : Reached) → Front (meanings_of (reads x state).state.notes) around.meanings → IsAt r (meanings_of state.notes)
+pub read_whole : (x : Expr) (state : State) (around : Around) → (reads x state).broken ≡ [] → (variables : List Variable) → KnownBy variables state.scope.variables → (r : Reached) → Front (meanings_of (reads x state).state.notes) around.meanings → IsAt r (meanings_of state.notes)
     → Whole variables around (expression x around r)
 read_whole x state around h variables k r w at = expressions_whole x false state.scope (past_broken (seen_in state x) state h) variables k state.notes around r (past_front (seen_in state x) state around.meanings w) at
 
-test_whole : (x : Expr) (state : State) (around : Around) → (reads x state).broken ≡ [] → (variables : List Variable) → KnownBy variables state.scope.variables → (r : Reached) → Front (meanings_of (reads x state).state.notes) around.meanings → IsAt r (meanings_of state.notes)
+pub test_whole : (x : Expr) (state : State) (around : Around) → (reads x state).broken ≡ [] → (variables : List Variable) → KnownBy variables state.scope.variables → (r : Reached) → Front (meanings_of (reads x state).state.notes) around.meanings → IsAt r (meanings_of state.notes)
     → Names (IsWhole variables around.structs around.layout) (λ offset size. Unit {0}) (λ x. Unit {0}) (number_in (expression x around r).value)
 test_whole x state around h variables k r w at = number_of_names _ _ _ (expression x around r).value (read_whole x state around h variables k r w at).value
 
-tested_whole : (o : Option Expr) (state : State) (around : Around) → (maybe_reads o state).broken ≡ [] → (variables : List Variable) → KnownBy variables state.scope.variables → (r : Reached) → Front (meanings_of (maybe_reads o state).state.notes) around.meanings → IsAt r (meanings_of state.notes)
+pub tested_whole : (o : Option Expr) (state : State) (around : Around) → (maybe_reads o state).broken ≡ [] → (variables : List Variable) → KnownBy variables state.scope.variables → (r : Reached) → Front (meanings_of (maybe_reads o state).state.notes) around.meanings → IsAt r (meanings_of state.notes)
     → Names (IsWhole variables around.structs around.layout) (λ offset size. Unit {0}) (λ x. Unit {0}) (tested_by (maybe expression o) around r).test
 tested_whole None state around h variables k r w at = tt
 tested_whole (Some x) state around h variables k r w at = test_whole x state around h variables k r w at
 
-done_whole : (o : Option Expr) (state : State) (around : Around) → (maybe_reads o state).broken ≡ [] → (variables : List Variable) → KnownBy variables state.scope.variables → (r : Reached) → Front (meanings_of (maybe_reads o state).state.notes) around.meanings → IsAt r (meanings_of state.notes)
+pub done_whole : (o : Option Expr) (state : State) (around : Around) → (maybe_reads o state).broken ≡ [] → (variables : List Variable) → KnownBy variables state.scope.variables → (r : Reached) → Front (meanings_of (maybe_reads o state).state.notes) around.meanings → IsAt r (meanings_of state.notes)
     → NamesEffect (IsWhole variables around.structs around.layout) (λ offset size. Unit {0}) (λ x. Unit {0}) (done_by (maybe expression o) around r).effect
 done_whole None state around h variables k r w at = tt
 done_whole (Some x) state around h variables k r w at = (read_whole x state around h variables k r w at).effect
 
-local_whole : (variables : List Variable) (around : Around) (o : Option ℕ) → WholePlace variables around (local_of around o)
+pub local_whole : (variables : List Variable) (around : Around) (o : Option ℕ) → WholePlace variables around (local_of around o)
 local_whole variables around None = tt
 local_whole variables around (Some number) = variable_named (IsWhole variables around.structs around.layout) around.structs around.variables around.stands 0 number
 
-abbrev nothing_stated : Stating
+abbrev pub nothing_stated : Stating
 nothing_stated around r = stated Skip r
 
-stay_alike : StateAlike (stay, nothing_stated, 0)
+pub stay_alike : StateAlike (stay, nothing_stated, 0)
 stay_alike state around knows h = record { moves = moves_not around state; copies = λ small r w at. tt; names = λ variables k r w at. tt }
 
-value_alike : (value : Option Expr) → StateAlike (maybe_reads value, (λ around r. let x = done_by (maybe expression value) around r in stated (Do x.effect) x.after), 0)
+pub value_alike : (value : Option Expr) → StateAlike (maybe_reads value, (λ around r. let x = done_by (maybe expression value) around r in stated (Do x.effect) x.after), 0)
 value_alike value state around knows h = record { moves = maybe_reads_done around value state h; copies = λ small r w at. done_small value state around h small r w at; names = done_whole value state around h }
 
 -- ---- declarations
@@ -136,13 +136,13 @@ pub local_type : (around : Around) (d : Decl) (state : State) (kind : CType) →
 local_type around d state kind go r w h = let m = meanings_of (after_counts state d).notes in let bind = b.Local (number_of state.scope) in
     type_stands bind kind m around (past_counts expression d around r) w (go.at state.notes around r (front_then m (declared_more bind kind m) around.meanings (front_declared bind kind m) w) h)
 
-abbrev local_rest : Option Init → Place → Option CType → Walk
+abbrev pub local_rest : Option Init → Place → Option CType → Walk
 local_rest init place kind = maybe_fills init f.Local kind then local_judged init kind place
 
-abbrev local_stated : Decl → Option Init → Stating
+abbrev pub local_stated : Decl → Option Init → Stating
 local_stated d init around r = declared (maybe (initialiser expression) init) around (past_counts expression d around r)
 
-local_behind : (d : Decl) (init : Option Init) (place : Place) (state : State) (around : Around) → Knows around state → (kind : CType) → Goes (counts_of state d).after (past_counts expression d)
+pub local_behind : (d : Decl) (init : Option Init) (place : Place) (state : State) (around : Around) → Knows around state → (kind : CType) → Goes (counts_of state d).after (past_counts expression d)
     → (local_rest init place (Some kind) (with_local d.name kind (after_counts state d))).broken ≡ []
     → StatedAlike around state (local_rest init place (Some kind) (with_local d.name kind (after_counts state d))).state (local d init place, local_stated d init, 1)
 unfolding ◌then◌ at_node
@@ -163,7 +163,7 @@ local_behind d (Some x) place state around knows kind go h =
           (in_order_names _ _ _ _ ((initialisers_alike x).names f.Local kind mid around (knows_on around state mid 1 knows first.grows) l 0 none variables (known_on variables _ _ first.grows.variables k) (local_whole variables around o) (past_declaration here) w (first.at r w1 at)));
     }
 
-local_alike : (d : Decl) (init : Option Init) (place : Place) → StateAlike (local d init place, local_stated d init, 1)
+pub local_alike : (d : Decl) (init : Option Init) (place : Place) → StateAlike (local d init place, local_stated d init, 1)
 local_alike d init place state around knows h =
     let known = declares_well u.Variable (is_here d.name) false (with_local d.name) d state (none_in (local_declared d state) (local_rest init place) h) in
     subst (λ new. StatedAlike around state new (local d init place, local_stated d init, 1)) (sym (after_declared (local_declared d state) (local_rest init place) known.kind _ known.is known.next))
@@ -171,7 +171,7 @@ local_alike d init place state around knows h =
 
 -- ---- blocks and loops
 
-looped_alike : (b : StateB) → StateAlike b → StateAlike (looped b.0, b.1, b.2)
+pub looped_alike : (b : StateB) → StateAlike b → StateAlike (looped b.0, b.1, b.2)
 unfolding inside
 looped_alike b x state around knows h = let m = x (enter_loop state) around knows h in let g = m.moves.grows in record {
   moves = record { grows = record { on = g.on; structs = g.structs; functions = g.functions; variables = g.variables; types = g.types; many = g.many; made = g.made; declared = g.declared }; at = λ r w a. m.moves.at r w a };
@@ -179,7 +179,7 @@ looped_alike b x state around knows h = let m = x (enter_loop state) around know
   names = λ variables k r w a. m.names variables k r w a;
 }
 
-block_alike : (at_body : Bool) (b : StateB) → StateAlike b → StateAlike (block_by at_body b.0, b.1, b.2)
+pub block_alike : (at_body : Bool) (b : StateB) → StateAlike b → StateAlike (block_by at_body b.0, b.1, b.2)
 unfolding inside
 block_alike true b x state around knows h = let m = x (enter_body state) around knows h in let g = m.moves.grows in record {
   moves = record { grows = record { on = g.on; structs = g.structs; functions = g.functions; variables = g.variables; types = g.types; many = g.many; made = g.made; declared = g.declared }; at = λ r w a. m.moves.at r w a };
@@ -194,10 +194,10 @@ block_alike false b x state around knows h = let m = x (enter_block state) aroun
 
 -- ---- statements with parts
 
-abbrev if_stated : Expr → Stating → Stating → Stating
+abbrev pub if_stated : Expr → Stating → Stating → Stating
 if_stated test a other around r = let c = expression test around r in let x = a around c.after in let y = other around x.after in stated (If (number_in c.value) x.statement y.statement) y.after
 
-if_alike : (test : Expr) (a other : StateB) (place : Place) → StateAlike a → StateAlike other → StateAlike (if_walk test a.0 other.0 place, if_stated test a.1 other.1, a.2 + other.2)
+pub if_alike : (test : Expr) (a other : StateB) (place : Place) → StateAlike a → StateAlike other → StateAlike (if_walk test a.0 other.0 place, if_stated test a.1 other.1, a.2 + other.2)
 unfolding ◌then◌ at_node
 if_alike test a other place x y state around knows h =
     let s1 = (reads test state).state in let s2 = (a.0 s1).state in let s3 = (other.0 s2).state in
@@ -213,10 +213,10 @@ if_alike test a other place x y state around knows h =
           (test_whole test state around (first_empty (reads test state).broken _ h) variables k r w1 at, m1.names variables j1 r1 w2 a1, m2.names variables j2 (a.1 around r1).after w (m1.moves.at r1 w2 a1));
     }
 
-abbrev while_stated : Expr → Stating → Stating
+abbrev pub while_stated : Expr → Stating → Stating
 while_stated test body around r = let c = expression test around r in let x = body around c.after in stated (While (number_in c.value) x.statement) x.after
 
-while_alike : (test : Expr) (body : StateB) (place : Place) → StateAlike body → StateAlike (while_walk test body.0 place, while_stated test body.1, body.2)
+pub while_alike : (test : Expr) (body : StateB) (place : Place) → StateAlike body → StateAlike (while_walk test body.0 place, while_stated test body.1, body.2)
 unfolding ◌then◌ at_node
 while_alike test body place x state around knows h =
     let s1 = (reads test state).state in let s2 = (looped body.0 s1).state in let h1 = second_empty (reads test state).broken _ h in
@@ -228,10 +228,10 @@ while_alike test body place x state around knows h =
           (test_whole test state around (first_empty (reads test state).broken _ h) variables k r w1 at, m1.names variables (known_on variables _ _ m0.grows.variables k) (expression test around r).after w (m0.at r w1 at));
     }
 
-abbrev do_stated : Stating → Expr → Stating
+abbrev pub do_stated : Stating → Expr → Stating
 do_stated body test around r = let x = body around r in let c = expression test around x.after in stated (DoWhile x.statement (number_in c.value)) c.after
 
-do_alike : (body : StateB) (test : Expr) (place : Place) → StateAlike body → StateAlike (looped body.0 then tested test place, do_stated body.1 test, body.2)
+pub do_alike : (body : StateB) (test : Expr) (place : Place) → StateAlike body → StateAlike (looped body.0 then tested test place, do_stated body.1 test, body.2)
 unfolding ◌then◌ at_node
 do_alike body test place x state around knows h =
     let s1 = (looped body.0 state).state in let s2 = (reads test s1).state in let h1 = second_empty (looped body.0 state).broken _ h in
@@ -243,11 +243,11 @@ do_alike body test place x state around knows h =
           (m0.names variables k r w1 at, test_whole test s1 around (first_empty (reads test s1).broken _ h1) variables (known_on variables _ _ m0.moves.grows.variables k) (body.1 around r).after w (m0.moves.at r w1 at));
     }
 
-abbrev for_stated : Option Expr → Option Expr → Option Expr → Stating → Stating
+abbrev pub for_stated : Option Expr → Option Expr → Option Expr → Stating → Stating
 for_stated first test next body around r = let f = done_by (maybe expression first) around r in let c = tested_by (maybe expression test) around f.after in
     let n = done_by (maybe expression next) around c.after in let x = body around n.after in stated (Then (Do f.effect) (For c.test n.effect x.statement)) x.after
 
-for_alike : (first test next : Option Expr) (body : StateB) (place : Place) → StateAlike body → StateAlike (maybe_reads first then for_rest test next body.0 place, for_stated first test next body.1, body.2)
+pub for_alike : (first test next : Option Expr) (body : StateB) (place : Place) → StateAlike body → StateAlike (maybe_reads first then for_rest test next body.0 place, for_stated first test next body.1, body.2)
 unfolding ◌then◌ at_node
 for_alike first test next body place x state around knows h =
     let s1 = (maybe_reads first state).state in let s2 = (maybe_reads test s1).state in let s3 = (maybe_reads next s2).state in let s4 = (looped body.0 s3).state in
@@ -273,11 +273,11 @@ for_alike first test next body place x state around knows h =
           (done_whole first state around n0 variables k r w1 at, (tested_whole test s1 around n1 variables j1 r1 w2 a1, done_whole next s2 around n2 variables j2 r2 w3 a2, m3.names variables j3 r3 w (m2.at r2 w3 a2)));
     }
 
-returned_small : (v : Value) → OfCopies IsSmall (return_of v)
+pub returned_small : (v : Value) → OfCopies IsSmall (return_of v)
 returned_small (Numeric e) = tt
 returned_small (Address p) = tt
 
-return_alike : (value : Option Expr) (place : Place) → StateAlike (return_walk value place, returned_by (maybe expression value), 0)
+pub return_alike : (value : Option Expr) (place : Place) → StateAlike (return_walk value place, returned_by (maybe expression value), 0)
 unfolding ◌then◌ at_node
 return_alike None place state around knows h = record { moves = moves_not around state; copies = λ small r w at. tt; names = λ variables k r w at. tt }
 return_alike (Some x) place state around knows h = record {
@@ -287,37 +287,37 @@ return_alike (Some x) place state around knows h = record {
       (given_names _ _ _ around.result (expression x around r).type (expression x around r).value (read_whole x state around (first_empty (reads x state).broken _ h) variables k r w at).value);
 }
 
-jump_alike : (place : Place) (statement : Statement) → OfCopies IsSmall statement → ((variables : List Variable) (around : Around) → WholeStatement variables around statement) → StateAlike (jump place, (λ around r. stated statement r), 0)
+pub jump_alike : (place : Place) (statement : Statement) → OfCopies IsSmall statement → ((variables : List Variable) (around : Around) → WholeStatement variables around statement) → StateAlike (jump place, (λ around r. stated statement r), 0)
 unfolding at_node
 jump_alike place statement c n state around knows h = record { moves = moves_not around state; copies = λ small r w at. c; names = λ variables k r w at. n variables around }
 
 -- ---- statements
 
-abbrev StateA : Type 0
+abbrev pub StateA : Type 0
 StateA = (Place → Walk) × Stating × ℕ
 
-abbrev states : StmtKind-F Stating Stating → Stating
+abbrev pub states : StmtKind-F Stating Stating → Stating
 states = stmt_step expression (initialiser expression)
 
-abbrev state_both : StmtKind-F StateA StateB → StateA
+abbrev pub state_both : StmtKind-F StateA StateB → StateA
 state_both y = (check_step (sf.map-StmtKind StateA StateB (Place → Walk) Walk (λ a. a.0) (λ b. b.0) y), states (sf.map-StmtKind StateA StateB Stating Stating (λ a. a.1) (λ b. b.1) y), counts (sf.map-StmtKind StateA StateB ℕ ℕ (λ a. a.2) (λ b. b.2) y))
 
-abbrev state_struct : Stmt-F StateA StateB → StateB
+abbrev pub state_struct : Stmt-F StateA StateB → StateB
 state_struct x = (x.kind.0 x.place, x.kind.1, x.kind.2)
 
-abbrev StateAlikeAt : StateA → Type 0
+abbrev pub StateAlikeAt : StateA → Type 0
 StateAlikeAt a = (place : Place) → StateAlike (a.0 place, a.1, a.2)
 
-abbrev PartsA : Type 0
+abbrev pub PartsA : Type 0
 PartsA = StmtA StateA StateB state_both state_struct StateAlikeAt StateAlike
 
-abbrev PartsB : Type 0
+abbrev pub PartsB : Type 0
 PartsB = StmtB StateA StateB state_both state_struct StateAlikeAt StateAlike
 
-abbrev parts : List PartsB → List StateB
+abbrev pub parts : List PartsB → List StateB
 parts all = map (λ y. y.0) all
 
-all_alike : (all : List PartsB) → StateAlike (walk_all (map (λ b. b.0) (parts all)), all_stated (map (λ b. b.1) (parts all)), total (map (λ b. b.2) (parts all)))
+pub all_alike : (all : List PartsB) → StateAlike (walk_all (map (λ b. b.0) (parts all)), all_stated (map (λ b. b.1) (parts all)), total (map (λ b. b.2) (parts all)))
 unfolding ◌then◌
 all_alike [] state around knows h = record { moves = moves_not around state; copies = λ small r w at. tt; names = λ variables k r w at. tt }
 all_alike (x ∷ more) state around knows h = let s1 = (x.0.0 state).state in let n = total (map (λ b. b.2) (parts more)) in
@@ -329,7 +329,7 @@ all_alike (x ∷ more) state around knows h = let s1 = (x.0.0 state).state in le
           (m0.names variables k r w1 at, m1.names variables (known_on variables _ _ m0.moves.grows.variables k) (x.0.1 around r).after w (m0.moves.at r w1 at));
     }
 
-every_state : (y : StmtKind-F PartsA PartsB) → StateAlikeAt (state_both (bare_stmts StateA StateB state_both state_struct StateAlikeAt StateAlike y))
+pub every_state : (y : StmtKind-F PartsA PartsB) → StateAlikeAt (state_both (bare_stmts StateA StateB state_both state_struct StateAlikeAt StateAlike y))
 every_state (s.Value value) place = value_alike value
 every_state (s.Local d init) place = local_alike d init place
 every_state (s.If test a None) place = if_alike test a.0 (stay, nothing_stated, 0) place a.1 stay_alike
@@ -342,16 +342,16 @@ every_state s.Continue place = jump_alike place Continue tt (λ variables around
 every_state (s.Return value) place = return_alike value place
 every_state (s.Block all) place = λ state around knows h. let m = block_alike state.scope.at_body (walk_all (map (λ b. b.0) (parts all)), all_stated (map (λ b. b.1) (parts all)), total (map (λ b. b.2) (parts all))) (all_alike all) state around knows h in record { moves = m.moves; copies = m.copies; names = m.names }
 
-abbrev stated_both : Stmt → StateB
+abbrev pub stated_both : Stmt → StateB
 stated_both = fold-Stmt StateA StateB state_both state_struct
 
-checks_same : (x : Stmt) → (stated_both x).0 ≡ statement x
+pub checks_same : (x : Stmt) → (stated_both x).0 ≡ statement x
 checks_same x = stmts_fused StateA StateB (Place → Walk) Walk state_both state_struct check_step (λ x. x.kind x.place) (λ a. a.0) (λ b. b.0) (λ y. refl) (λ y. refl) x
 
-states_same : (x : Stmt) → (stated_both x).1 ≡ statement_by expression (initialiser expression) x
+pub states_same : (x : Stmt) → (stated_both x).1 ≡ statement_by expression (initialiser expression) x
 states_same x = stmts_fused StateA StateB Stating Stating state_both state_struct states (λ x. x.kind) (λ a. a.1) (λ b. b.1) (λ y. refl) (λ y. refl) x
 
-counts_same : (x : Stmt) → (stated_both x).2 ≡ declarations x
+pub counts_same : (x : Stmt) → (stated_both x).2 ≡ declarations x
 counts_same x = stmts_fused StateA StateB ℕ ℕ state_both state_struct counts (λ x. x.kind) (λ a. a.2) (λ b. b.2) (λ y. refl) (λ y. refl) x
 
 pub statements_alike : (x : Stmt) → StateAlike (statement x, statement_by expression (initialiser expression) x, declarations x)
