@@ -13,3 +13,4 @@ pub mod Main
 pub mod Loaded
 pub mod Fields
 pub mod Filled
+pub mod Calls

@@ -55,7 +55,7 @@ has_main os none = by (find main_name (definitions os)) refl none
     by (Some id) e h = inner id e (is_c_function os id && bytes_eq (sig_at os id) main_sig) refl h
 
 -- a C function is a definition
-defined : (os : List Object) (id : SymbolId) → is_c_function os id ≡ true → not (is_import os id) ≡ true
+pub defined : (os : List Object) (id : SymbolId) → is_c_function os id ≡ true → not (is_import os id) ≡ true
 defined os id h =
     let code = and_parts (not (is_legacy_at os id)) (is_code os id) h in
     subst (λ (n : ℕ). not (n == 0) ≡ true) (sym (eqb-true (symbol_at os id).part 1 code.1)) refl

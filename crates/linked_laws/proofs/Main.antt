@@ -12,7 +12,7 @@ use Rattle.obj_linker.specs.Symbols.{Named, ids, find, place_of, add_if_new, wit
 
 -- ---- the first symbol of a name
 
-abbrev first_named : List Object → List ℕ → List SymbolId → Option SymbolId
+abbrev pub first_named : List Object → List ℕ → List SymbolId → Option SymbolId
 first_named os name [] = None
 first_named os name (id ∷ xs) = cond (bytes_eq name (name_at os id)) (Some id) (first_named os name xs)
 
@@ -53,7 +53,7 @@ find_noted os name now [] = by (find name now)
     by (Some x) = refl
 find_noted os name now (x ∷ xs) = find_noted os name (with_name os now x) xs ∙ find_one_more os name now x (first_named os name xs)
 
-find_first : (os : List Object) (name : List ℕ) (xs : List SymbolId) → find name (named_by os xs) ≡ first_named os name xs
+pub find_first : (os : List Object) (name : List ℕ) (xs : List SymbolId) → find name (named_by os xs) ≡ first_named os name xs
 find_first os name xs = find_noted os name [] xs
 
 -- the first of a name that passes one test is the first that passes a stronger one, where it does

@@ -2,3 +2,4 @@ pub mod Alike
 pub mod Linked
 pub mod Linkage
 pub mod Fields
+pub mod Calls

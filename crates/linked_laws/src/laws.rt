@@ -1,16 +1,20 @@
 //! Laws of linked images. Each function does nothing, and its contract is the law.
 
-ghost use Rattle.std.specs.Prelude.{◌≡◌, ℕ, Bool, true, Some, List, slice_get};
+ghost use Rattle.std.specs.Prelude.{◌≡◌, ℕ, Bool, true, false, Some, List, slice_get};
 ghost use Rattle.std.specs.List.{All};
 ghost use Rattle.obj_file.specs.declared.object.Object.{Object};
+ghost use Rattle.obj_file.specs.declared.object.Fix.{Fix};
 ghost use Rattle.obj_file.specs.declared.image.Image.{Image};
 ghost use Rattle.obj_file.specs.Image.{IsImage};
 ghost use Rattle.obj_file.specs.Machine.{IsReader, Reading};
 ghost use Rattle.obj_file.specs.Stored.{stored_at_start};
 ghost use Rattle.obj_file.specs.StoreLaw.{HaveBytes};
 ghost use Rattle.gate_laws.specs.Owed.{IsLinked, IsLoaded};
-ghost use Rattle.obj_linker.specs.Placement.{plan_of, spot_of};
+ghost use Rattle.obj_linker.specs.declared.parts.SymbolId.{SymbolId};
+ghost use Rattle.obj_linker.specs.Symbols.{definitions, find, is_c_function, is_legacy_function, place_of};
+ghost use Rattle.obj_linker.specs.Placement.{is_call, plan_of, spot_of};
 ghost use Rattle.linked_laws.specs.Alike.{AreAlike};
+ghost use Rattle.linked_laws.specs.Calls.{LeadsToFunction, LeadsToOuter, LeadsToStub, name_of};
 ghost use Rattle.linked_laws.specs.Fields.{AreFilled};
 ghost use Rattle.linked_laws.specs.Linkage.{inner_of, linkage_of, main_of, stub_of};
 ghost use Rattle.linked_laws.specs.Linked.{AreLinked, HaveParts, HoldsBytes, bytes_in};
@@ -31,6 +35,18 @@ pub fn parts_stand_at_their_addresses()
 /// the object's.
 pub fn fields_hold_their_values()
     ensures { (os : List Object) (v : Image) → AreLinked os v → AreFilled os (plan_of os) (bytes_in v) }
+{}
+
+/// A call of an instrumented object leads to the inner entry of the C function that its symbol's name has, or to a stub that leads to the
+/// legacy function of that name; any other fix-up sees the outer entry of a C function. The numbers are those of the linkage.
+pub fn fix_ups_lead_to_entries()
+    ensures function { (os : List Object) (k : ℕ) (o : Object) (f : Fix) (d : SymbolId) → find (name_of os k f) (definitions os) ≡ Some d
+        → is_call o f ≡ true → is_c_function os d ≡ true → LeadsToFunction os k o f d (place_of (name_of os k f) (plan_of os).functions) }
+    ensures outer { (os : List Object) (k : ℕ) (o : Object) (f : Fix) (d : SymbolId) → find (name_of os k f) (definitions os) ≡ Some d
+        → is_call o f ≡ false → is_c_function os d ≡ true → LeadsToOuter os k o f d (place_of (name_of os k f) (plan_of os).functions) }
+    ensures stub { (os : List Object) (k : ℕ) (o : Object) (f : Fix) (d : SymbolId) → find (name_of os k f) (definitions os) ≡ Some d
+        → slice_get os k ≡ Some o → (i : ℕ) → slice_get o.fixes i ≡ Some f → is_call o f ≡ true → is_legacy_function os d ≡ true
+        → LeadsToStub os k o f d (place_of (name_of os k f) (plan_of os).stubs) }
 {}
 
 /// The gates of the image of linked objects stand where the laws of gates want them (`IsLinked` of `gate_laws`), by an exact reader of
