@@ -1,5 +1,5 @@
 -- Files that there may be, and what is due of a refused one.
-use Rattle.std.proofs.Common.{◌≡◌, ℕ, ◌<◌, ◌≤◌, Bool, true, false, cond, nat_lt, Option, None, Some, Ok, Err, List, [], length, refl, sym, ap, ◌∙◌, subst, arith}
+use Rattle.std.proofs.Common.{◌≡◌, ℕ, ◌<◌, ◌≤◌, Bool, true, false, cond, nat_lt, Option, None, Some, Err, List, [], length, refl, sym, ap, ◌∙◌, subst, arith}
 use Rattle.std.specs.Prelude.{Result}
 use Rattle.std.specs.Str.{bytes_eq}
 use Rattle.std.proofs.lemmas.Bool.Decides.{nat_tests}
@@ -9,10 +9,10 @@ use Rattle.obj_file.specs.Machine.{Reading}
 use Rattle.mpx_words.specs.declared.end.End.{End}
 use Rattle.mpx_words.specs.declared.end.End.TheVariants as end
 use Rattle.mpx_words.specs.Answers.{LeavesInput, Whole, FileUnread, LacksMemory, Answers, Serves, Untouched, IsDone, IsPlain, KeepsFiles, Reports}
-use Rattle.mpx_words.specs.Commands.{Command, Run, Exec, Dis, Gen, Migrate}
+use Rattle.mpx_words.specs.Commands.{Command, Run, Exec, Dis, Gen, Make}
 use Rattle.mpx_words.specs.Due.{Due, IsDue, refused}
 use Rattle.mpx_words.specs.Ends.{line_of, status_of}
-use Rattle.mpx_words.specs.Files.{Content, MayBe, file_limit, or_bad, formed, IsRefused, LoadCounts}
+use Rattle.mpx_words.specs.Files.{Content, MayBe, file_limit, Form, formed, IsRefused, LoadCounts}
 use Rattle.mpx_words.specs.Outside.{Stream, Outside, stream}
 use Rattle.mpx_words.proofs.Puts.{adds_nothing}
 
@@ -50,17 +50,14 @@ few n h = grind (arith, nat_tests)
 many : (n : ℕ) → file_limit < n → nat_lt file_limit n ≡ true
 many n h = grind (arith, nat_tests)
 
-pub formed_few : {X : Type 0} (form : List ℕ → Result X ℕ) (bytes : List ℕ) → length bytes ≤ file_limit → formed form (Some bytes) ≡ or_bad (form bytes)
-formed_few {X} form bytes le = ap (λ (b : Bool). cond b (Err end.FileLarge) (or_bad (form bytes))) (few (length bytes) le)
+formed_few : {X : Type 0} (form : Form X) (bytes : List ℕ) → length bytes ≤ file_limit → formed form (Some bytes) ≡ form bytes
+formed_few {X} form bytes le = ap (λ (b : Bool). cond b (Err end.FileLarge) (form bytes)) (few (length bytes) le)
 
-pub formed_many : {X : Type 0} (form : List ℕ → Result X ℕ) (bytes : List ℕ) → file_limit < length bytes → formed form (Some bytes) ≡ Err end.FileLarge
-formed_many {X} form bytes lt = ap (λ (b : Bool). cond b (Err end.FileLarge) (or_bad (form bytes))) (many (length bytes) lt)
+pub formed_many : {X : Type 0} (form : Form X) (bytes : List ℕ) → file_limit < length bytes → formed form (Some bytes) ≡ Err end.FileLarge
+formed_many {X} form bytes lt = ap (λ (b : Bool). cond b (Err end.FileLarge) (form bytes)) (many (length bytes) lt)
 
-pub formed_ok : {X : Type 0} (form : List ℕ → Result X ℕ) (bytes : List ℕ) (x : X) → length bytes ≤ file_limit → form bytes ≡ Ok x → formed form (Some bytes) ≡ Ok x
-formed_ok form bytes x le e = formed_few form bytes le ∙ ap or_bad e
-
-formed_bad : {X : Type 0} (form : List ℕ → Result X ℕ) (bytes : List ℕ) (at : ℕ) → length bytes ≤ file_limit → form bytes ≡ Err at → formed form (Some bytes) ≡ Err (end.BadForm at)
-formed_bad form bytes at le e = formed_few form bytes le ∙ ap or_bad e
+pub formed_as : {X : Type 0} (form : Form X) (bytes : List ℕ) (r : Result X End) → length bytes ≤ file_limit → form bytes ≡ r → formed form (Some bytes) ≡ r
+formed_as form bytes r le e = formed_few form bytes le ∙ e
 
 -- ---- what stays
 
@@ -88,11 +85,11 @@ leaves (Run file) before after e = e
 leaves (Exec settings file) before after e = tt
 leaves (Dis file) before after e = e
 leaves (Gen n) before after e = e
-leaves (Migrate name file) before after e = e
+leaves (Make m name file) before after e = e
 
 -- ---- a refused file
 
-module _ {X : Type 0} (form : List ℕ → Result X ℕ) (reads : List ℕ → Reading) (c : Command) (file : List ℕ) (before after : Outside) (status : ℕ)
+module _ {X : Type 0} (form : Form X) (reads : List ℕ → Reading) (c : Command) (file : List ℕ) (before after : Outside) (status : ℕ)
     (is_due : (files : List ℕ → Content) (why : End) → formed form (files file) ≡ Err why → IsDue reads c files before.input.told (refused file before.input.told why)) where
   serves : (content : Content) (why : End) → MayBe (before.files.told file) content → formed form content ≡ Err why → (Claim : Due → Type 0) → Claim (refused file before.input.told why) → Serves reads c before Claim
   serves content why may e Claim h = record {
@@ -125,7 +122,8 @@ module _ {X : Type 0} (form : List ℕ → Result X ℕ) (reads : List ℕ → R
       → Reports (line_of file why) (status_of why) status before.err after.err → Answers reads c before after status
   refused_answers end.Missing may counts same reports = refuses end.Missing None may refl plain_one same counts reports
   refused_answers end.FileLarge h counts same reports = refuses end.FileLarge (Some h.0) h.1 (formed_many form h.0 h.2) plain_one same counts reports
-  refused_answers (end.BadForm at) h counts same reports = refuses (end.BadForm at) (Some h.0) h.1.may (formed_bad form h.0 at h.1.few h.2) plain_one same counts reports
+  refused_answers (end.BadForm at) h counts same reports = refuses (end.BadForm at) (Some h.0) h.1.may (formed_as form h.0 (Err (end.BadForm at)) h.1.few h.2) plain_one same counts reports
+  refused_answers (end.BadLine line kind) h counts same reports = refuses (end.BadLine line kind) (Some h.0) h.1.may (formed_as form h.0 (Err (end.BadLine line kind)) h.1.few h.2) plain_one same counts reports
   refused_answers end.ReadFault h counts same reports = record {
     end = FileUnread;
     works = untouched before after same;

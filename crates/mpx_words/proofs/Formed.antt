@@ -14,7 +14,7 @@ use Rattle.obj_file.specs.ImageReading.{image_of}
 use Rattle.obj_file.specs.ObjectReading.{object_of}
 use Rattle.mpx_words.specs.declared.end.End.{End}
 use Rattle.mpx_words.specs.declared.end.End.TheVariants as end
-use Rattle.mpx_words.specs.Files.{MayBe, MayHold, file_limit, begins_object, made_of, by_form, IsRefused, Loads, LoadsBytes, Yields, IsBad, Reads, Makes, refusal_of_form, LoadCounts}
+use Rattle.mpx_words.specs.Files.{MayBe, MayHold, Form, file_limit, begins_object, made_of, by_form, IsRefused, Loads, LoadsBytes, Yields, IsBad, Reads, Makes, refusal_of_form, LoadCounts}
 use Rattle.mpx_words.specs.Sources.{IsFrontOf, ReadsFront}
 use Rattle.mpx_words.specs.declared.source_file.SourceFault.{SourceFault}
 
@@ -49,20 +49,22 @@ loaded_many facts r o v e is h le = more facts v.items (front_of facts r o v e i
 -- ---- refusals
 
 -- a file whose bytes are not read is refused by each form
-pub refused_bytes : {X : Type 0} (form : List ℕ → Result X ℕ) (facts : FileFacts) (why : End) → LoadsBytes facts (Err why) → IsRefused form facts why
+pub refused_bytes : {X : Type 0} (form : Form X) (facts : FileFacts) (why : End) → LoadsBytes facts (Err why) → IsRefused form facts why
 refused_bytes form facts end.Missing h = h
 refused_bytes form facts end.FileLarge h = h
 refused_bytes form facts end.ReadFault h = tt
 refused_bytes form facts end.NoMemory h = tt
 refused_bytes form facts (end.BadForm at) h = absurd h
+refused_bytes form facts (end.BadLine line kind) h = absurd h
 refused_bytes form facts (end.Exit code) h = absurd h
 refused_bytes form facts (end.Bounds value lb ub) h = absurd h
 refused_bytes form facts end.Unbuilt h = absurd h
 refused_bytes form facts end.WordsRefused h = absurd h
 refused_bytes form facts end.WriteFault h = absurd h
 
-bad_bytes : {X : Type 0} (form : List ℕ → Result X ℕ) (facts : FileFacts) (bytes : List ℕ) (why : End) → MayHold facts bytes → IsBad form bytes why → IsRefused form facts why
+bad_bytes : {X : Type 0} (form : Form X) (facts : FileFacts) (bytes : List ℕ) (why : End) → MayHold facts bytes → IsBad form bytes why → IsRefused form facts why
 bad_bytes form facts bytes (end.BadForm at) m h = (bytes, m, h)
+bad_bytes form facts bytes (end.BadLine line kind) m h = (bytes, m, h)
 bad_bytes form facts bytes end.NoMemory m h = tt
 bad_bytes form facts bytes end.Missing m h = absurd h
 bad_bytes form facts bytes end.FileLarge m h = absurd h
@@ -74,17 +76,18 @@ bad_bytes form facts bytes end.WordsRefused m h = absurd h
 bad_bytes form facts bytes end.WriteFault m h = absurd h
 
 -- what the bytes of a file are, the file is
-pub loads : {X : Type 0} (form : List ℕ → Result X ℕ) (facts : FileFacts) (v : Vec ℕ Global) (bytes : List ℕ) (r : Result X End) → bytes ≡ v.items → MayHold facts v.items → Reads form bytes r → Loads form facts r
+pub loads : {X : Type 0} (form : Form X) (facts : FileFacts) (v : Vec ℕ Global) (bytes : List ℕ) (r : Result X End) → bytes ≡ v.items → MayHold facts v.items → Reads form bytes r → Loads form facts r
 loads form facts v bytes (Ok x) same m h = (v.items, m, ap form (sym same) ∙ h)
 loads form facts v bytes (Err why) same m h = bad_bytes form facts v.items why m (subst (λ (xs : List ℕ). IsBad form xs why) same h)
 
-pub yields : {X : Type 0} (form : List ℕ → Result X ℕ) (Is : X → List ℕ → Type 0) (facts : FileFacts) (v : Vec ℕ Global) (bytes : List ℕ) (r : Result (Vec ℕ Global) End) → bytes ≡ v.items → MayHold facts v.items → Makes form Is bytes r → Yields form Is facts r
+pub yields : {X : Type 0} (form : Form X) (Is : X → List ℕ → Type 0) (facts : FileFacts) (v : Vec ℕ Global) (bytes : List ℕ) (r : Result (Vec ℕ Global) End) → bytes ≡ v.items → MayHold facts v.items → Makes form Is bytes r → Yields form Is facts r
 yields form Is facts v bytes (Ok t) same m h = (v.items, m, h.0, ap form (sym same) ∙ h.1, h.2)
 yields form Is facts v bytes (Err why) same m h = bad_bytes form facts v.items why m (subst (λ (xs : List ℕ). IsBad form xs why) same h)
 
 -- no read failed where the bytes were read
-bad_counts : {X : Type 0} (Y : Type 0) (form : List ℕ → Result X ℕ) (bytes : List ℕ) (why : End) (old new : ℕ) → IsBad form bytes why → new ≡ old → LoadCounts {X = Y} (Err why) old new
+bad_counts : {X : Type 0} (Y : Type 0) (form : Form X) (bytes : List ℕ) (why : End) (old new : ℕ) → IsBad form bytes why → new ≡ old → LoadCounts {X = Y} (Err why) old new
 bad_counts Y form bytes (end.BadForm at) old new h e = e
+bad_counts Y form bytes (end.BadLine line kind) old new h e = e
 bad_counts Y form bytes end.NoMemory old new h e = e
 bad_counts Y form bytes end.Missing old new h e = absurd h
 bad_counts Y form bytes end.FileLarge old new h e = absurd h
@@ -95,17 +98,18 @@ bad_counts Y form bytes end.Unbuilt old new h e = absurd h
 bad_counts Y form bytes end.WordsRefused old new h e = absurd h
 bad_counts Y form bytes end.WriteFault old new h e = absurd h
 
-pub load_counts : {X : Type 0} (form : List ℕ → Result X ℕ) (bytes : List ℕ) (r : Result X End) (old new : ℕ) → Reads form bytes r → new ≡ old → LoadCounts r old new
+pub load_counts : {X : Type 0} (form : Form X) (bytes : List ℕ) (r : Result X End) (old new : ℕ) → Reads form bytes r → new ≡ old → LoadCounts r old new
 load_counts form bytes (Ok x) old new h e = e
 load_counts {X} form bytes (Err why) old new h e = bad_counts X form bytes why old new h e
 
-pub make_counts : {X : Type 0} (form : List ℕ → Result X ℕ) (Is : X → List ℕ → Type 0) (bytes : List ℕ) (r : Result (Vec ℕ Global) End) (old new : ℕ) → Makes form Is bytes r → new ≡ old → LoadCounts r old new
+pub make_counts : {X : Type 0} (form : Form X) (Is : X → List ℕ → Type 0) (bytes : List ℕ) (r : Result (Vec ℕ Global) End) (old new : ℕ) → Makes form Is bytes r → new ≡ old → LoadCounts r old new
 make_counts form Is bytes (Ok t) old new h e = e
 make_counts form Is bytes (Err why) old new h e = bad_counts (Vec ℕ Global) form bytes why old new h e
 
 pub same_counts : (X Y : Type 0) (why : End) (old new : ℕ) → LoadCounts {X = X} (Err why) old new → LoadCounts {X = Y} (Err why) old new
 same_counts X Y end.ReadFault old new h = h
 same_counts X Y (end.BadForm at) old new h = h
+same_counts X Y (end.BadLine line kind) old new h = h
 same_counts X Y end.NoMemory old new h = h
 same_counts X Y end.Missing old new h = h
 same_counts X Y end.FileLarge old new h = h
@@ -118,16 +122,13 @@ same_counts X Y end.WriteFault old new h = h
 -- ---- forms
 
 -- bytes of another form are refused with the offset of what is bad
-pub bad : {X : Type 0} (form : List ℕ → Result X ℕ) (bytes : List ℕ) (f : FormFault) (why : End) → why ≡ refusal_of_form f → Refuses f (form bytes) → IsBad form bytes why
-bad form bytes (fault.BadForm at) why e h = subst (λ (w : End). IsBad form bytes w) (sym e) h
-bad form bytes fault.OutOfMemory why e h = subst (λ (w : End). IsBad form bytes w) (sym e) tt
-
 pub bad_made : {V X : Type 0} (make : V → X) (form : List ℕ → Result V ℕ) (bytes : List ℕ) (f : FormFault) (why : End) → why ≡ refusal_of_form f → Refuses f (form bytes) → IsBad (λ b. made_of make (form b)) bytes why
 bad_made make form bytes (fault.BadForm at) why e h = subst (λ (w : End). IsBad (λ b. made_of make (form b)) bytes w) (sym e) (ap (made_of make) h)
 bad_made make form bytes fault.OutOfMemory why e h = subst (λ (w : End). IsBad (λ b. made_of make (form b)) bytes w) (sym e) tt
 
-same_bad : {X : Type 0} (form other : List ℕ → Result X ℕ) (bytes : List ℕ) (why : End) → form bytes ≡ other bytes → IsBad other bytes why → IsBad form bytes why
+same_bad : {X : Type 0} (form other : Form X) (bytes : List ℕ) (why : End) → form bytes ≡ other bytes → IsBad other bytes why → IsBad form bytes why
 same_bad form other bytes (end.BadForm at) e h = e ∙ h
+same_bad form other bytes (end.BadLine line kind) e h = e ∙ h
 same_bad form other bytes end.NoMemory e h = tt
 same_bad form other bytes end.Missing e h = h
 same_bad form other bytes end.FileLarge e h = h
@@ -138,7 +139,7 @@ same_bad form other bytes end.Unbuilt e h = h
 same_bad form other bytes end.WordsRefused e h = h
 same_bad form other bytes end.WriteFault e h = h
 
-same_makes : {X : Type 0} (form other : List ℕ → Result X ℕ) (Is : X → List ℕ → Type 0) (bytes : List ℕ) (r : Result (Vec ℕ Global) End) → form bytes ≡ other bytes → Makes other Is bytes r → Makes form Is bytes r
+same_makes : {X : Type 0} (form other : Form X) (Is : X → List ℕ → Type 0) (bytes : List ℕ) (r : Result (Vec ℕ Global) End) → form bytes ≡ other bytes → Makes other Is bytes r → Makes form Is bytes r
 same_makes form other Is bytes (Ok t) e h = (h.0, e ∙ h.1, h.2)
 same_makes form other Is bytes (Err why) e h = same_bad form other bytes why e h
 

@@ -1,24 +1,23 @@
 -- Texts on standard output, and files that are written.
 use Rattle.std.proofs.Common.{◌≡◌, ◌∙◌, ℕ, Option, None, Some, Ok, Err, List, refl, sym, ap, subst, arith}
-use Rattle.std.specs.Prelude.{Result}
 use Rattle.mx_base.specs.Outside.{Untold, HoldsWhereTold, HasRisen}
 use Rattle.obj_file.specs.Machine.{Reading}
 use Rattle.mpx_words.specs.declared.end.End.TheVariants.{WriteFault}
 use Rattle.mpx_words.specs.Answers.{Whole, OutputUnwritten, FileUnwritten, Answers, Serves, IsDone, IsCut, IsPlain, IsUnwritten, KeepsFiles, KeepsOthers, Reports}
 use Rattle.mx_gen.specs.Program.{program_of}
-use Rattle.mpx_words.specs.Commands.{Command, Gen, Dis, Migrate}
+use Rattle.mpx_words.specs.Commands.{Command, Gen, Dis, Make}
 use Rattle.std.specs.declared.vec.Vec.{Vec}
 use Rattle.std.specs.Global.{Global}
 use Rattle.mpx_words.specs.declared.end.End.{End}
-use Rattle.obj_file.specs.Image.{image_spelling}
-use Rattle.obj_file.specs.Object.{object_spelling}
+use Rattle.mpx_words.specs.declared.making.Making.{Making}
 use Rattle.mpx_words.specs.Listing.{object_codes, image_codes, IsListing}
 use Rattle.mpx_words.specs.Due.{Due, IsDue, IsDueOf, refused, printed, wrote}
 use Rattle.mpx_words.specs.Ends.{line_of}
-use Rattle.mpx_words.specs.Files.{Content, MayHold, formed, by_form, Yields, IsText}
+use Rattle.mpx_words.specs.Files.{Content, MayHold, Form, formed, by_form, Yields, IsText}
+use Rattle.mpx_words.specs.Makings.{made_by}
 use Rattle.mpx_words.specs.Outside.{Stream, Outside}
 use Rattle.mpx_words.specs.Sinks.{Prints, All, Part}
-use Rattle.mpx_words.proofs.Choices.{leaves, plainly, may_plainly, with_file, may_with, with_same, formed_ok, kept}
+use Rattle.mpx_words.proofs.Choices.{leaves, plainly, may_plainly, with_file, may_with, with_same, formed_as, kept}
 
 plain_zero : IsPlain 0
 plain_zero = record { not_refused = λ e. omega (arith, e); not_unread = λ e. omega (arith, e); not_unwritten = λ e. omega (arith, e) }
@@ -51,7 +50,7 @@ module _ (reads : List ℕ → Reading) (c : Command) (before after : Outside) (
   }
 
 -- a claim on what is due of a file by its form
-module _ {X : Type 0} (form : List ℕ → Result X ℕ) (reads : List ℕ → Reading) (c : Command) (file : List ℕ) (before : Outside) (due : Due) (bytes : List ℕ) (x : X)
+module _ {X : Type 0} (form : Form X) (reads : List ℕ → Reading) (c : Command) (file : List ℕ) (before : Outside) (due : Due) (bytes : List ℕ) (x : X)
     (holds : MayHold (before.files.told file) bytes) (is : form bytes ≡ Ok x)
     (is_due : (files : List ℕ → Content) → formed form (files file) ≡ Ok x → IsDue reads c files before.input.told due) where
   pub serves_form : (Claim : Due → Type 0) → Claim due → Serves reads c before Claim
@@ -59,7 +58,7 @@ module _ {X : Type 0} (form : List ℕ → Result X ℕ) (reads : List ℕ → R
     files = with_file before.files.told file (Some bytes);
     may = may_with before.files.told file (Some bytes) holds.may;
     due = due;
-    is = is_due (with_file before.files.told file (Some bytes)) (ap (formed form) (with_same before.files.told file (Some bytes)) ∙ formed_ok form bytes x holds.few is);
+    is = is_due (with_file before.files.told file (Some bytes)) (ap (formed form) (with_same before.files.told file (Some bytes)) ∙ formed_as form bytes (Ok x) holds.few is);
     claim = h;
   }
 
@@ -120,9 +119,9 @@ pub dis_serves : (reads : List ℕ → Reading) (file : List ℕ) (before : Outs
 dis_serves reads file before v y = serves_form (by_form object_codes image_codes) reads (Dis file) file before (printed before.input.told v.items) y.0 y.2 y.1 y.3
     (λ files e. subst (λ r. IsDueOf file before.input.told (λ parts due. (text : List ℕ) × IsListing parts text × (due ≡ printed before.input.told text)) r (printed before.input.told v.items)) (sym e) (v.items, y.4, refl))
 
-pub migrate_refused : (reads : List ℕ → Reading) (name file : List ℕ) (left : Option (List ℕ)) (files : List ℕ → Content) (why : End) → formed (by_form object_spelling image_spelling) (files file) ≡ Err why → IsDue reads (Migrate name file) files left (refused file left why)
-migrate_refused reads name file left files why e = subst (λ r. IsDueOf file left (λ spelling due. due ≡ wrote left name spelling) r (refused file left why)) (sym e) refl
+pub make_refused : (reads : List ℕ → Reading) (m : Making) (name file : List ℕ) (left : Option (List ℕ)) (files : List ℕ → Content) (why : End) → formed (made_by m) (files file) ≡ Err why → IsDue reads (Make m name file) files left (refused file left why)
+make_refused reads m name file left files why e = subst (λ r. IsDueOf file left (λ bytes due. due ≡ wrote left name bytes) r (refused file left why)) (sym e) refl
 
-pub migrate_serves : (reads : List ℕ → Reading) (name file : List ℕ) (before : Outside) (v : Vec ℕ Global) → Yields (by_form object_spelling image_spelling) IsText (before.files.told file) (Ok v) → (Claim : Due → Type 0) → Claim (wrote before.input.told name v.items) → Serves reads (Migrate name file) before Claim
-migrate_serves reads name file before v y = serves_form (by_form object_spelling image_spelling) reads (Migrate name file) file before (wrote before.input.told name v.items) y.0 y.2 y.1 y.3
-    (λ files e. subst (λ r. IsDueOf file before.input.told (λ spelling due. due ≡ wrote before.input.told name spelling) r (wrote before.input.told name v.items)) (sym e) (ap (wrote before.input.told name) y.4))
+pub make_serves : (reads : List ℕ → Reading) (m : Making) (name file : List ℕ) (before : Outside) (v : Vec ℕ Global) → Yields (made_by m) IsText (before.files.told file) (Ok v) → (Claim : Due → Type 0) → Claim (wrote before.input.told name v.items) → Serves reads (Make m name file) before Claim
+make_serves reads m name file before v y = serves_form (made_by m) reads (Make m name file) file before (wrote before.input.told name v.items) y.0 y.2 y.1 y.3
+    (λ files e. subst (λ r. IsDueOf file before.input.told (λ bytes due. due ≡ wrote before.input.told name bytes) r (wrote before.input.told name v.items)) (sym e) (ap (wrote before.input.told name) y.4))

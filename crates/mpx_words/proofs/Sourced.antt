@@ -38,6 +38,7 @@ text_ran bytes size acts code end.Missing held held' early h = ((early_run size 
 text_ran bytes size acts code end.Unbuilt held held' early h = ((early_run size acts code).out, program_text bytes size acts code _ early h.0, h.1)
 text_ran bytes size acts code end.FileLarge held held' early h = ((early_run size acts code).out, program_text bytes size acts code _ early h.0, h.1)
 text_ran bytes size acts code (end.BadForm at) held held' early h = ((early_run size acts code).out, program_text bytes size acts code _ early h.0, h.1)
+text_ran bytes size acts code (end.BadLine line kind) held held' early h = ((early_run size acts code).out, program_text bytes size acts code _ early h.0, h.1)
 text_ran bytes size acts code end.WordsRefused held held' early h = ((early_run size acts code).out, program_text bytes size acts code _ early h.0, h.1)
 
 -- a text that spells no program is refused, and nothing is put
@@ -79,6 +80,7 @@ source_ran facts front end.Missing held held' f h = (f.content, f.may, h.0, f.ru
 source_ran facts front end.Unbuilt held held' f h = (f.content, f.may, h.0, f.run h.0 _ h.1, h.2)
 source_ran facts front end.FileLarge held held' f h = (f.content, f.may, h.0, f.run h.0 _ h.1, h.2)
 source_ran facts front (end.BadForm at) held held' f h = (f.content, f.may, h.0, f.run h.0 _ h.1, h.2)
+source_ran facts front (end.BadLine line kind) held held' f h = (f.content, f.may, h.0, f.run h.0 _ h.1, h.2)
 source_ran facts front end.WordsRefused held held' f h = (f.content, f.may, h.0, f.run h.0 _ h.1, h.2)
 
 -- the text of a file ran, as reading answered it
@@ -159,6 +161,7 @@ module _ (reads : List ℕ → Reading) (file : List ℕ) (before after : Outsid
   source_answers end.Unbuilt h counts reports = whole_answers end.Unbuilt h counts reports
   source_answers end.FileLarge h counts reports = whole_answers end.FileLarge h counts reports
   source_answers (end.BadForm at) h counts reports = whole_answers (end.BadForm at) h counts reports
+  source_answers (end.BadLine line kind) h counts reports = whole_answers (end.BadLine line kind) h counts reports
   source_answers end.WordsRefused h counts reports = whole_answers end.WordsRefused h counts reports
 
 -- the counts of the work on a text, which reads no file
@@ -172,4 +175,5 @@ text_counts end.Missing bytes held held' reads reads' outs outs' h e c = (e, c)
 text_counts end.Unbuilt bytes held held' reads reads' outs outs' h e c = (e, c)
 text_counts end.FileLarge bytes held held' reads reads' outs outs' h e c = (e, c)
 text_counts (end.BadForm at) bytes held held' reads reads' outs outs' h e c = (e, c)
+text_counts (end.BadLine line kind) bytes held held' reads reads' outs outs' h e c = (e, c)
 text_counts end.WordsRefused bytes held held' reads reads' outs outs' h e c = (e, c)

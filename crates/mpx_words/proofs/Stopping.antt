@@ -6,7 +6,6 @@ use Rattle.mx_base.specs.declared.stops.Stop.TheVariants as stop
 use Rattle.mx_base.specs.Outside.{Adds}
 use Rattle.mx_run.specs.Events.{out_of}
 use Rattle.obj_file.specs.declared.image.Image.{Image}
-use Rattle.obj_file.specs.ImageReading.{image_of}
 use Rattle.obj_file.specs.Machine.{Reading}
 use Rattle.obj_file.specs.Runs as runs
 use Rattle.obj_file.specs.Loaded.{Tabled}
@@ -15,7 +14,7 @@ use Rattle.mpx_words.specs.Answers.{Whole, InputUnread, OutputUnwritten, LacksFr
 use Rattle.mpx_words.specs.declared.end.End.{End}
 use Rattle.mpx_words.specs.Commands.{Exec}
 use Rattle.mpx_words.specs.Due.{Due, IsDue, IsDueOf, IsDueOfRun, due_of_run, due_unseen, refused}
-use Rattle.mpx_words.specs.Files.{Content, formed, Loads}
+use Rattle.mpx_words.specs.Files.{Content, formed, image_form, Loads}
 use Rattle.mpx_words.specs.Outside.{Stream, Outside}
 use Rattle.mpx_words.specs.Running.{run_by, lack_by, stop_of, rest_of, Comes, TellsLack, RunsImage, RunCounts}
 use Rattle.mpx_words.specs.Stops.{stop_status_of}
@@ -98,9 +97,9 @@ comes e stop.WriteFault held held' left' own h = absurd own
 -- ---- the command
 
 module _ (reads : List ℕ → Reading) (s : Settings) (file : List ℕ) (v : Image) (before after : Outside) (status : ℕ)
-    (loads : Loads image_of (before.files.told file) (Ok v)) (files : KeepsFiles before after) (unread : after.files.reads ≡ before.files.reads) (unwritten : after.files.writes ≡ before.files.writes) where
+    (loads : Loads image_form (before.files.told file) (Ok v)) (files : KeepsFiles before after) (unread : after.files.reads ≡ before.files.reads) (unwritten : after.files.writes ≡ before.files.writes) where
   serves : (due : Due) → IsDueOfRun reads s v before.input.told due → (Claim : Due → Type 0) → Claim due → Serves reads (Exec s file) before Claim
-  serves due is = serves_form image_of reads (Exec s file) file before due loads.0 v loads.1 loads.2
+  serves due is = serves_form image_form reads (Exec s file) file before due loads.0 v loads.1 loads.2
       (λ known e. subst (λ r. IsDueOf file before.input.told (λ (w : Image). IsDueOfRun reads s w before.input.told) r due) (sym e) is)
 
   -- by what is told of the input
@@ -168,7 +167,7 @@ module _ (reads : List ℕ → Reading) (s : Settings) (file : List ℕ) (v : Im
     reports = reports;
   }
 
-pub exec_refused : (reads : List ℕ → Reading) (s : Settings) (file : List ℕ) (left : Option (List ℕ)) (files : List ℕ → Content) (why : End) → formed image_of (files file) ≡ Err why → IsDue reads (Exec s file) files left (refused file left why)
+pub exec_refused : (reads : List ℕ → Reading) (s : Settings) (file : List ℕ) (left : Option (List ℕ)) (files : List ℕ → Content) (why : End) → formed image_form (files file) ≡ Err why → IsDue reads (Exec s file) files left (refused file left why)
 exec_refused reads s file left files why e = subst (λ r. IsDueOf file left (λ (v : Image). IsDueOfRun reads s v left) r (refused file left why)) (sym e) refl
 
 -- a report of the same line and status

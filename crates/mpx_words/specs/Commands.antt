@@ -3,6 +3,8 @@ use Rattle.std.specs.Prelude.{◌≡◌, ℕ, ◌≤◌, IsTrue, Some, List, [],
 use Rattle.mpx_words.specs.declared.options.Settings.{Settings}
 use Rattle.mpx_words.specs.declared.command.Command.{Command as Chosen}
 use Rattle.mpx_words.specs.declared.command.Command.TheVariants as chosen
+use Rattle.mpx_words.specs.declared.making.Making.{Making}
+use Rattle.mpx_words.specs.Makings.{word_of, takes}
 use Rattle.mpx_words.specs.Options.{IsExec, number_of}
 use Rattle.mpx_words.specs.Words.{is_file_word, is_source_word}
 
@@ -12,7 +14,7 @@ pub data Command : Type 0 where
   Exec : Settings → (file : List ℕ) → Command
   Dis : (file : List ℕ) → Command
   Gen : ℕ → Command
-  Migrate : (name file : List ℕ) → Command
+  Make : Making → (name file : List ℕ) → Command
 
 -- the words after the program's name mean a command
 abbrev pub Means : List (List ℕ) → Command → Type 0
@@ -21,8 +23,8 @@ Means words (Exec settings file) = IsExec words settings file
 Means words (Dis file) = (words ≡ codes "dis" ∷ file ∷ []) × IsTrue (is_file_word file)
 Means words (Gen n) =
     (word : List ℕ) × (words ≡ codes "gen" ∷ word ∷ []) × (number_of word ≡ Some n) × (1 ≤ n) × (n ≤ 200)
-Means words (Migrate name file) =
-    (words ≡ codes "migrate" ∷ codes "--out" ∷ name ∷ file ∷ []) × IsTrue (is_file_word name) × IsTrue (is_file_word file)
+Means words (Make m name file) =
+    (words ≡ word_of m ∷ codes "--out" ∷ name ∷ file ∷ []) × IsTrue (is_file_word name) × IsTrue (takes m file)
 
 -- they mean none
 abbrev pub MeanNothing : List (List ℕ) → Type 0
@@ -35,7 +37,7 @@ command_of (chosen.Run file) = Run file.now
 command_of (chosen.Exec settings file) = Exec settings file.now
 command_of (chosen.Dis file) = Dis file.now
 command_of (chosen.Gen n) = Gen n
-command_of (chosen.Migrate name file) = Migrate name.now file.now
+command_of (chosen.Make m name file) = Make m name.now file.now
 
 -- names are short, and numbers within their limits
 abbrev pub Fits : Command → Type 0
@@ -43,4 +45,4 @@ Fits (Run file) = length file ≤ 255
 Fits (Exec settings file) = (length file ≤ 255) × (settings.frames ≤ 524288)
 Fits (Dis file) = length file ≤ 255
 Fits (Gen n) = n ≤ 200
-Fits (Migrate name file) = (length name ≤ 255) × (length file ≤ 255)
+Fits (Make m name file) = (length name ≤ 255) × (length file ≤ 255)

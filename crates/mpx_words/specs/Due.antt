@@ -8,17 +8,15 @@ use Rattle.mx_base.specs.declared.stops.Stop.{Stop}
 use Rattle.mx_gen.specs.Program.{program_of}
 use Rattle.mx_run.specs.Events.{out_of}
 use Rattle.obj_file.specs.declared.image.Image.{Image}
-use Rattle.obj_file.specs.Image.{image_spelling}
-use Rattle.obj_file.specs.ImageReading.{image_of}
 use Rattle.obj_file.specs.Machine.{Reading}
-use Rattle.obj_file.specs.Object.{object_spelling}
 use Rattle.mpx_words.specs.declared.end.End.{End}
 use Rattle.mpx_words.specs.declared.end.End.TheVariants.{Exit, Bounds, Missing, Unbuilt}
 use Rattle.mpx_words.specs.declared.options.Settings.{Settings}
-use Rattle.mpx_words.specs.Commands.{Command, Run, Exec, Dis, Gen, Migrate}
+use Rattle.mpx_words.specs.Commands.{Command, Run, Exec, Dis, Gen, Make}
 use Rattle.mpx_words.specs.Ends.{status_of, line_of}
-use Rattle.mpx_words.specs.Files.{Content, formed, by_form}
+use Rattle.mpx_words.specs.Files.{Content, formed, by_form, image_form}
 use Rattle.mpx_words.specs.Listing.{object_codes, image_codes, IsListing}
+use Rattle.mpx_words.specs.Makings.{made_by}
 use Rattle.mpx_words.specs.Running.{run_by, lack_by, stop_of, rest_of}
 use Rattle.mpx_words.specs.Stops.{stop_status_of}
 
@@ -121,10 +119,9 @@ IsDueOf file left IsDueOfIt (Err end) due = due ≡ refused file left end
 abbrev pub IsDue : (List ℕ → Reading) → Command → (List ℕ → Content) → Option (List ℕ) → Due → Type 0
 IsDue reads (Run file) files left due =
     (out : List ℕ) × (end : End) × IsRunOf (files file) out end × (due ≡ reported file left out end)
-IsDue reads (Exec s file) files left due = IsDueOf file left (λ v. IsDueOfRun reads s v left) (formed image_of (files file)) due
+IsDue reads (Exec s file) files left due = IsDueOf file left (λ v. IsDueOfRun reads s v left) (formed image_form (files file)) due
 IsDue reads (Dis file) files left due =
     IsDueOf file left (λ parts due. (text : List ℕ) × IsListing parts text × (due ≡ printed left text))
     (formed (by_form object_codes image_codes) (files file)) due
 IsDue reads (Gen n) files left due = due ≡ printed left (program_of n)
-IsDue reads (Migrate name file) files left due =
-    IsDueOf file left (λ spelling due. due ≡ wrote left name spelling) (formed (by_form object_spelling image_spelling) (files file)) due
+IsDue reads (Make m name file) files left due = IsDueOf file left (λ bytes due. due ≡ wrote left name bytes) (formed (made_by m) (files file)) due

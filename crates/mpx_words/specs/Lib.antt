@@ -5,6 +5,7 @@ pub mod Early
 pub mod Ends
 pub mod Files
 pub mod Listing
+pub mod Makings
 pub mod Options
 pub mod Outside
 pub mod Running

@@ -9,3 +9,7 @@ is_file_word word = nat_le 1 (length word) && nat_le (length word) 255 && not (s
 -- a word that names a C source
 abbrev pub is_source_word : List ℕ → Bool
 is_source_word word = is_file_word word && ends_with nat_eq word (codes ".c")
+
+-- a word that names a text of assembly
+abbrev pub is_assembly_word : List ℕ → Bool
+is_assembly_word word = is_file_word word && ends_with nat_eq word (codes ".s")

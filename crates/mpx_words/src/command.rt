@@ -1,7 +1,8 @@
 //! Commands, and the words that mean them.
 ghost use Rattle.std.specs.Prelude.{◌≡◌, ◌≤◌, ℕ, List, map, string_bytes, length, MatchOption, ◌∷◌, [], codes};
-ghost use Rattle.mpx_words.specs.Commands.{Run, Dis, Gen, Migrate, Means, MeanNothing, Fits, command_of};
+ghost use Rattle.mpx_words.specs.Commands.{Run, Dis, Gen, Make, Means, MeanNothing, Fits, command_of};
 
+use crate::making::{Making, making_of};
 use crate::options::{Settings, exec_words, number};
 use crate::word::{is_file, is_source};
 
@@ -16,8 +17,8 @@ pub enum Command<'a> {
     Dis(&'a str),
     /// Puts the generated program of this size, 1 to 200.
     Gen(u32),
-    /// Writes to a file, the first, the newest form of the object or image in the other.
-    Migrate(&'a str, &'a str),
+    /// Writes to a file, the first, what is made of the other.
+    Make(Making, &'a str, &'a str),
 }
 
 /// The word behind a command's name, if the words are these two.
@@ -64,21 +65,52 @@ fn gen_words(words: &[String]) -> Option<u32>
     }
 }
 
-/// The file that is written, and the one that is read.
-fn migrate_words(words: &[String]) -> Option<(&str, &str)>
-    ensures { MatchOption result ((name file : List ℕ) → Means (map string_bytes words.now) (Migrate name file) → ⊥) (λ r. Means (map string_bytes words.now) (Migrate r.0.now r.1.now)) }
+/// The words of a command that writes a file: its name, that of the file, and the words behind them.
+#[derive(Clone, Copy)]
+struct Writing<'a> {
+    command: &'a str,
+    to: &'a str,
+    files: &'a [String],
+}
+
+fn writing_words(words: &[String]) -> Option<Writing<'_>>
+    ensures { MatchOption result ((command to : List ℕ) (files : List (List ℕ)) → map string_bytes words.now ≡ command ∷ codes "--out" ∷ to ∷ files → ⊥) (λ w. map string_bytes words.now ≡ w.command.now ∷ codes "--out" ∷ w.to.now ∷ map string_bytes w.files.now) }
 {
-    if words.len() != 4 {
-        return None;
+    let (command, behind) = words.split_first()?;
+    let (option, last) = behind.split_first()?;
+    let (to, files) = last.split_first()?;
+    if option.as_str() == "--out" {
+        Some(Writing {
+            command: command.as_str(),
+            to: to.as_str(),
+            files,
+        })
+    } else {
+        None
     }
-    let name = words[2].as_str();
-    let file = words[3].as_str();
-    if words[0].as_str() == "migrate"
-        && words[1].as_str() == "--out"
-        && is_file(name)
-        && is_file(file)
-    {
-        Some((name, file))
+}
+
+/// The word, if there is one alone.
+fn alone(words: &[String]) -> Option<&str>
+    ensures { MatchOption result ((word : List ℕ) → map string_bytes words.now ≡ word ∷ [] → ⊥) (λ word. map string_bytes words.now ≡ word.now ∷ []) }
+{
+    let (word, more) = words.split_first()?;
+    if more.is_empty() {
+        Some(word.as_str())
+    } else {
+        None
+    }
+}
+
+/// What is made, the file that is written, and the one that is read.
+fn make_words(words: &[String]) -> Option<(Making, &str, &str)>
+    ensures { MatchOption result ((making : Making) (name file : List ℕ) → Means (map string_bytes words.now) (Make making name file) → ⊥) (λ r. Means (map string_bytes words.now) (Make r.0 r.1.now r.2.now)) }
+{
+    let writing = writing_words(words)?;
+    let making = making_of(writing.command)?;
+    let file = alone(writing.files)?;
+    if is_file(writing.to) && making.takes(file) {
+        Some((making, writing.to, file))
     } else {
         None
     }
@@ -101,8 +133,8 @@ pub fn command_in(words: &[String]) -> Option<Command<'_>>
     if let Some(n) = gen_words(words) {
         return Some(Command::Gen(n));
     }
-    match migrate_words(words) {
-        Some((name, file)) => Some(Command::Migrate(name, file)),
+    match make_words(words) {
+        Some((making, name, file)) => Some(Command::Make(making, name, file)),
         None => None,
     }
 }

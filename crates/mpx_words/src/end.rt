@@ -2,6 +2,8 @@
 ghost use Rattle.std.specs.Prelude.{◌≡◌};
 ghost use Rattle.mpx_words.specs.Ends.{status_of};
 
+use asm_text::AsmKind;
+
 /// How a command ended.
 #[derive(Clone, Copy, Debug, PartialEq, Eq)]
 pub enum End {
@@ -17,6 +19,8 @@ pub enum End {
     FileLarge,
     /// The bytes of the file are no image; the first field that is cut or breaks its rule has this offset.
     BadForm { at: u64 },
+    /// The text of the file is no assembly: the first refused line, from 1, and why.
+    BadLine { line: u32, kind: AsmKind },
     /// The words are no command.
     WordsRefused,
     /// A read of a file failed.
@@ -34,7 +38,8 @@ impl End {
     {
         match self {
             End::Exit(_) => 0,
-            End::Missing | End::Unbuilt | End::FileLarge | End::BadForm { .. } => 1,
+            End::Missing | End::Unbuilt | End::FileLarge => 1,
+            End::BadForm { .. } | End::BadLine { .. } => 1,
             End::WordsRefused => 2,
             End::ReadFault => 3,
             End::WriteFault => 4,

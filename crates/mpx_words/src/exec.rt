@@ -1,12 +1,11 @@
 //! The command `exec`: the image in a file is run.
 ghost use Rattle.std.specs.Prelude.{◌≡◌, ◌≤◌, ℕ, List, length, IfOk};
 ghost use Rattle.obj_file.specs.Image.{IsImage};
-ghost use Rattle.obj_file.specs.ImageReading.{image_of};
 ghost use Rattle.obj_file.specs.Machine.{Reading, IsReader};
 ghost use Rattle.obj_file.specs.StoreLaw.{HaveBytes};
 ghost use Rattle.mpx_words.specs.Answers.{Answers};
 ghost use Rattle.mpx_words.specs.Commands.{Exec};
-ghost use Rattle.mpx_words.specs.Files.{Reads, Loads, LoadCounts};
+ghost use Rattle.mpx_words.specs.Files.{image_form, Reads, Loads, LoadCounts};
 ghost use Rattle.mpx_words.specs.Outside.{shelf, stream, outside};
 ghost use Rattle.mpx_words.specs.Running.{RunsImage, RunCounts};
 
@@ -23,7 +22,7 @@ use std::alloc::Global;
 
 /// The image that the bytes spell.
 fn image_in(alloc: Global, bytes: &[u8]) -> Result<Image, End>
-    ensures reads { Reads image_of bytes.now result }
+    ensures reads { Reads image_form bytes.now result }
     ensures image { IfOk result (λ v. IsImage v × HaveBytes v.segments) }
 {
     match read_image(alloc, bytes) {
@@ -34,7 +33,7 @@ fn image_in(alloc: Global, bytes: &[u8]) -> Result<Image, End>
 
 /// The image in a file.
 fn load_image<F: Files>(alloc: Global, files: &mut F, name: &str) -> Result<Image, End>
-    ensures loads { Loads image_of (F.contents files.old name.now) result }
+    ensures loads { Loads image_form (F.contents files.old name.now) result }
     ensures image { IfOk result (λ v. IsImage v × HaveBytes v.segments) }
     ensures contents { (n : List ℕ) → F.contents files.new n ≡ F.contents files.old n }
     ensures counts { LoadCounts result (F.read_faults files.old) (F.read_faults files.new) }

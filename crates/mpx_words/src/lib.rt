@@ -10,7 +10,7 @@ mod generate;
 mod laws;
 mod line;
 mod load;
-mod migrate;
+mod making;
 mod options;
 pub mod report;
 pub mod run;

@@ -3,10 +3,11 @@ ghost use Rattle.std.specs.Prelude.{◌≡◌, ◌+◌, ◌<◌, ◌≤◌, ◌+
 ghost use Rattle.std.specs.Fmt.{decimal, digits, digit_glyph};
 ghost use Rattle.arrayvec.specs.ArrayVec.{array_vec_len};
 ghost use Rattle.fault_text.specs.Explain.{hex};
-ghost use Rattle.mpx_words.specs.Ends.{line_of};
+ghost use Rattle.mpx_words.specs.Ends.{line_of, word_of_kind};
 
 use crate::end::End;
 use arrayvec::ArrayVec;
+use asm_text::AsmKind;
 use itoa::Buffer;
 
 /// Room for the longest line: a name has at most 255 bytes.
@@ -41,6 +42,13 @@ pub fn make_line(file: &str, end: &End) -> Line
             push(&mut line, b": BadForm at ");
             push_decimal(&mut line, *at);
         }
+        End::BadLine { line: at, kind } => {
+            push(&mut line, file.as_bytes());
+            push(&mut line, b":");
+            push_decimal(&mut line, u64::from(*at));
+            push(&mut line, b": ");
+            push_kind(&mut line, *kind);
+        }
         End::WordsRefused => push(&mut line, b"words refused"),
         End::ReadFault => push(&mut line, b"read fault"),
         End::WriteFault => push(&mut line, b"write fault"),
@@ -63,6 +71,20 @@ fn push_bounds(line: &mut Line, value: u64, lb: u64, ub: u64)
     push(line, b", 0x");
     push_hex(line, ub);
     push(line, b"]");
+}
+
+/// Why a line of assembly is refused.
+fn push_kind(line: &mut Line, kind: AsmKind)
+    requires { array_vec_len line.old + 20 ≤ 640 }
+    ensures items { line.new.items ≡ line.old.items ++ word_of_kind kind }
+    ensures len { array_vec_len line.new ≤ array_vec_len line.old + 20 }
+{
+    match kind {
+        AsmKind::Shape => push(line, b"Shape"),
+        AsmKind::Range => push(line, b"Range"),
+        AsmKind::Twice => push(line, b"Twice"),
+        AsmKind::NoLocal => push(line, b"NoLocal"),
+    }
 }
 
 /// Text.

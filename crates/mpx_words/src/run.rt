@@ -12,7 +12,7 @@ use crate::early::run_source;
 use crate::end::End;
 use crate::exec::run_exec;
 use crate::generate::run_gen;
-use crate::migrate::run_migrate;
+use crate::making::run_making;
 use crate::report::report;
 use mx_base::{Files, Sink, Source};
 use std::alloc::Global;
@@ -23,9 +23,10 @@ use std::alloc::Global;
 /// - `exec [--turns N] [--frames N] [--preserve] [--bare] FILE` runs the image FILE; the guest takes from `input` and puts to `out`.
 /// - `dis FILE` puts the text of the code of the object or image FILE to `out`.
 /// - `gen N` puts the generated program of size N to `out`.
+/// - `asm --out NAME FILE` writes the object of the text of assembly FILE to the file NAME.
 /// - `migrate --out NAME FILE` writes the newest form of the object or image FILE to the file NAME.
 ///
-/// The last act is one line on `err`, which `dis`, `gen` and `migrate` put only where the status is not 0.
+/// The last act is one line on `err`, which all but `run` and `exec` put only where the status is not 0.
 pub fn run_words<F: Files, I: Source, O: Sink, E: Sink>(
     alloc: Global,
     words: &[String],
@@ -92,6 +93,6 @@ fn do_command<F: Files, I: Source, O: Sink, E: Sink>(
         Command::Exec(settings, file) => run_exec(alloc, settings, file, files, input, out, err),
         Command::Dis(file) => run_dis(alloc, file, files, out, err),
         Command::Gen(n) => run_gen(alloc, n, out, err),
-        Command::Migrate(name, file) => run_migrate(alloc, name, file, files, err),
+        Command::Make(making, name, file) => run_making(alloc, making, name, file, files, err),
     }
 }

@@ -1,12 +1,12 @@
 use Rattle.std.proofs.Common.{◌∙◌, refl}
-use Rattle.obj_file.specs.ImageReading.{image_of}
+use Rattle.mpx_words.specs.Files.{image_form}
 use Rattle.mpx_words.proofs.Choices.{memory_answers, refused_answers, stream_same}
 use Rattle.mpx_words.proofs.Stopping.{exec_refused, ran_answers, report_of}
 use Rattle.mpx_words.proofs.exec.run_exec.Goals as goal
 
 pub returns-in-Err : goal.returns-in-Err
 returns-in-Err g c = λ reads exact.
-    refused_answers image_of reads _ _ _ _ _ (exec_refused reads _ _ _) _ c.in-Err.ensures.loads c.in-Err.ensures.counts
+    refused_answers image_form reads _ _ _ _ _ (exec_refused reads _ _ _) _ c.in-Err.ensures.loads c.in-Err.ensures.counts
     (record { files = c.in-Err.ensures.contents; writes = c.in-Err.ensures.write_faults; input = refl; out = refl }) c.report.ensures
 
 pub returns-in-Err-run_image : goal.returns-in-Err-run_image
