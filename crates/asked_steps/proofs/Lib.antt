@@ -1,4 +1,5 @@
 pub mod Limits
 pub mod Fine
 pub mod Serving
+pub mod Sizes
 pub mod Parameters

@@ -1,7 +1,8 @@
 //! Laws of what code asks of steps. Each function does nothing, or names the laws that it rests on, and its contract is the law.
 
-ghost use Rattle.std.specs.Prelude.{◌≡◌, ◌+◌, ◌<◌, ◌≤◌, ℕ, Bool, Option, List, length};
+ghost use Rattle.std.specs.Prelude.{◌≡◌, ◌+◌, ◌*◌, ◌<◌, ◌≤◌, ℕ, Bool, Option, List, length};
 ghost use Rattle.fat_ir.specs.declared.program.FatFun.{FatFun};
+ghost use Rattle.fat_ir.specs.declared.step.FatStep.{FatStep};
 ghost use Rattle.fat_ir.specs.Spans.{Range};
 ghost use Rattle.fat_ir.specs.Step.{Located};
 ghost use Rattle.bounds_plan.specs.Code.{fat_function, most_pairs};
@@ -10,6 +11,7 @@ ghost use Rattle.bounds_plan.specs.Functions.{FunctionOfC};
 ghost use Rattle.bounds_plan.specs.Laws.{JumpsTo, times};
 ghost use Rattle.bounds_plan.specs.Sorts.{AllNameRight, BoundsIn, NumberIn, pairs_of};
 ghost use Rattle.step_code.specs.Asked.{FineSteps};
+ghost use Rattle.step_code.specs.Bytes.{AllStepsValid, places_of_steps, size_of_steps};
 ghost use Rattle.step_code.specs.Homes.{first_in, last_in};
 ghost use Rattle.step_code.specs.Steps.{Plan};
 ghost use Rattle.reg_assign.specs.declared.homes.Homes.{Homes};
@@ -30,6 +32,15 @@ use reg_assign::assigned_homes_are_had;
 pub fn compiled_functions_keep_to_limits()
     ensures { (located : ℕ → Located) (pointer : Bool) (returns : ℕ → Bool) (takes : ℕ → List (ℕ × Option ℕ) → Bool) (f : FunctionOfC)
         → FunctionWithin located pointer returns takes f → (name : ℕ) → AllLimited located pointer returns takes (fat_function name f).steps }
+{}
+
+/// The code of a step within the limits has at most 270 bytes, 18 instructions of 15, and two places of checks: so fifteen steps have at
+/// most 4,050 bytes and 30 places.
+pub fn steps_within_limits_have_few_bytes()
+    ensures bytes { (p : Plan) (label_at entry_at : ℕ → ℕ) (at : ℕ) (steps : List FatStep) → AllStepsValid p label_at entry_at at steps
+        → (located : ℕ → Located) (pointer : Bool) (returns : ℕ → Bool) (takes : ℕ → List (ℕ × Option ℕ) → Bool)
+        → AllLimited located pointer returns takes steps → size_of_steps p steps ≤ 270 * length steps }
+    ensures places { (p : Plan) (at : ℕ) (steps : List FatStep) → length (places_of_steps p at steps) ≤ 2 * length steps }
 {}
 
 /// Steps are what code asks of them, where they name values of their sorts, keep to the limits, and jump to labels that stand once
