@@ -1,0 +1,8 @@
+//! Where the text literals of expressions stand, one behind another.
+#![tactic(auto)]
+
+mod laws;
+mod literals;
+
+pub use laws::literals_stand_one_behind_another;
+pub use literals::{Literals, no_literals, put_literals, put_literals_of_all};
