@@ -11,7 +11,7 @@ use Rattle.c_accepted.specs.Literals.{text_sizes, joined}
 use Rattle.c_literals.specs.declared.literals.Literals.{Literals}
 use Rattle.c_literals.specs.Laid.{none, with_literal, with_literals}
 
-both_laid : (l : Literals) (a b : List ℕ) → with_literals (with_literals l a) b ≡ with_literals l (a ++ b)
+pub both_laid : (l : Literals) (a b : List ℕ) → with_literals (with_literals l a) b ≡ with_literals l (a ++ b)
 both_laid l [] b = refl
 both_laid l (size ∷ more) b = both_laid (with_literal l size) more b
 

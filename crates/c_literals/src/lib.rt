@@ -1,8 +1,10 @@
-//! Where the text literals of expressions stand, one behind another.
+//! Where the text literals of expressions and initialisers stand, one behind another.
 #![tactic(auto)]
 
+mod inits;
 mod laws;
 mod literals;
 
+pub use inits::put_literals_of_init;
 pub use laws::literals_stand_one_behind_another;
 pub use literals::{Literals, no_literals, put_literals, put_literals_of_all};
