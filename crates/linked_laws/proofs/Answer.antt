@@ -28,6 +28,8 @@ use Rattle.linked_laws.proofs.Segments.{PlacedFrom, code_grows, legacy_grows, st
 -- without a fault
 pub record Passed (os : List Object) (v : Image) : Type 0 where
   pub image : v ≡ image_of mpx_gates os
+  pub twice : twice os ≡ []
+  pub imports : faults_of_imports os (definitions os) (signed_imports os) ≡ []
   pub main : no_main os (definitions os) ≡ []
   pub sizes : Sizes os (plan_of os) (ends_of os)
   pub far : far_fixes os (plan_of os) ≡ []
@@ -46,10 +48,13 @@ passed os v l =
     let a = answered (image_of mpx_gates os) v (faults os) l.image in
     let of_names = none_before (faults_of_names os) (faults_of_sizes os) a.none in
     let of_sizes = none_behind (faults_of_names os) (faults_of_sizes os) a.none in
+    let of_definitions = none_before (twice os ++ faults_of_imports os (definitions os) (signed_imports os)) (no_main os (definitions os)) of_names in
     let main = none_behind (twice os ++ faults_of_imports os (definitions os) (signed_imports os)) (no_main os (definitions os)) of_names in
     let fit = sizes os (plan_of os) (ends_of os) (none_before (too_large os (plan_of os) (ends_of os)) (far_fixes os (plan_of os)) of_sizes) in
     record {
       image = a.is;
+      twice = none_before (twice os) (faults_of_imports os (definitions os) (signed_imports os)) of_definitions;
+      imports = none_behind (twice os) (faults_of_imports os (definitions os) (signed_imports os)) of_definitions;
       main = main;
       sizes = fit;
       far = none_behind (too_large os (plan_of os) (ends_of os)) (far_fixes os (plan_of os)) of_sizes;

@@ -33,7 +33,7 @@ got_there (x ∷ xs) zero d h = refl
 got_there (x ∷ xs) (suc k) d h = got_there xs k d (let less : k < length xs = omega (arith, h) in less)
 
 -- what all keep, one that is got keeps
-got_keeps : {X : Type 0} (P : X → Type 0) (xs : List X) (k : ℕ) (d : X) → AllByRecursion P xs → k < length xs → P (unwrap_or (slice_get xs k) d)
+pub got_keeps : {X : Type 0} (P : X → Type 0) (xs : List X) (k : ℕ) (d : X) → AllByRecursion P xs → k < length xs → P (unwrap_or (slice_get xs k) d)
 got_keeps P [] k d all h = absurd (let no : ⊥ = omega (arith, h) in no)
 got_keeps P (x ∷ xs) zero d all h = all.0
 got_keeps P (x ∷ xs) (suc k) d all h = got_keeps P xs k d all.1 (let less : k < length xs = omega (arith, h) in less)

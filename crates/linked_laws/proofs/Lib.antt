@@ -14,3 +14,4 @@ pub mod Loaded
 pub mod Fields
 pub mod Filled
 pub mod Calls
+pub mod Signed

@@ -35,7 +35,7 @@ found_already (Some z) b x y r h = refl
 found_already None true x y r h = (let no : None ≡ Some y = h refl in cc)
 found_already None false x y r h = refl
 
-find_one_more : (os : List Object) (name : List ℕ) (now : Named) (x : SymbolId) (r : Option SymbolId)
+pub find_one_more : (os : List Object) (name : List ℕ) (now : Named) (x : SymbolId) (r : Option SymbolId)
     → option_or (find name (with_name os now x)) r ≡ option_or (find name now) (cond (bytes_eq name (name_at os x)) (Some x) r)
 find_one_more os name now x r = by (find (name_at os x) now) refl
   where

@@ -1,22 +1,23 @@
 //! Laws of linked images. Each function does nothing, and its contract is the law.
 
-ghost use Rattle.std.specs.Prelude.{◌≡◌, ℕ, Bool, true, false, Some, List, slice_get};
+ghost use Rattle.std.specs.Prelude.{◌≡◌, ◌<◌, ℕ, Bool, true, false, Some, List, length, slice_get};
 ghost use Rattle.std.specs.List.{All};
 ghost use Rattle.obj_file.specs.declared.object.Object.{Object};
 ghost use Rattle.obj_file.specs.declared.object.Fix.{Fix};
 ghost use Rattle.obj_file.specs.declared.image.Image.{Image};
 ghost use Rattle.obj_file.specs.Image.{IsImage};
 ghost use Rattle.obj_file.specs.Machine.{IsReader, Reading};
+ghost use Rattle.obj_file.specs.Names.{is_function_sig};
 ghost use Rattle.obj_file.specs.Stored.{stored_at_start};
 ghost use Rattle.obj_file.specs.StoreLaw.{HaveBytes};
 ghost use Rattle.gate_laws.specs.Owed.{IsLinked, IsLoaded};
 ghost use Rattle.obj_linker.specs.declared.parts.SymbolId.{SymbolId};
-ghost use Rattle.obj_linker.specs.Symbols.{definitions, find, is_c_function, is_legacy_function, place_of};
+ghost use Rattle.obj_linker.specs.Symbols.{definitions, find, is_c_function, is_legacy_function, place_of, sig_at};
 ghost use Rattle.obj_linker.specs.Placement.{is_call, plan_of, spot_of};
 ghost use Rattle.linked_laws.specs.Alike.{AreAlike};
 ghost use Rattle.linked_laws.specs.Calls.{LeadsToFunction, LeadsToOuter, LeadsToStub, name_of};
 ghost use Rattle.linked_laws.specs.Fields.{AreFilled};
-ghost use Rattle.linked_laws.specs.Linkage.{inner_of, linkage_of, main_of, stub_of};
+ghost use Rattle.linked_laws.specs.Linkage.{called_at, function_at, inner_of, linkage_of, main_of, stub_of};
 ghost use Rattle.linked_laws.specs.Linked.{AreLinked, HaveParts, HoldsBytes, bytes_in};
 
 /// The image of linked objects keeps all rules of images: segments are in order and apart, each within one region of code or data, files
@@ -47,6 +48,15 @@ pub fn fix_ups_lead_to_entries()
     ensures stub { (os : List Object) (k : ℕ) (o : Object) (f : Fix) (d : SymbolId) → find (name_of os k f) (definitions os) ≡ Some d
         → slice_get os k ≡ Some o → (i : ℕ) → slice_get o.fixes i ≡ Some f → is_call o f ≡ true → is_legacy_function os d ≡ true
         → LeadsToStub os k o f d (place_of (name_of os k f) (plan_of os).stubs) }
+{}
+
+/// Each C function of linked objects has the signature of a function, and so has each symbol by which C calls a legacy function. So the
+/// signatures of the linkage are those that the objects tell.
+pub fn functions_at_the_border_have_signatures()
+    ensures own { (os : List Object) (v : Image) → AreLinked os v → (f : ℕ) → f < length (plan_of os).functions
+        → is_function_sig (sig_at os (function_at os f)) ≡ true }
+    ensures called { (os : List Object) (v : Image) → AreLinked os v → (g : ℕ) → g < length (plan_of os).stubs
+        → is_function_sig (sig_at os (called_at os g)) ≡ true }
 {}
 
 /// The gates of the image of linked objects stand where the laws of gates want them (`IsLinked` of `gate_laws`), by an exact reader of
