@@ -1,13 +1,15 @@
 -- In memory the fields of a linked image hold their values.
 use Rattle.std.specs.Prelude.{FitsSigned, ℤ, pos, negsuc, int_le}
-use Rattle.std.proofs.Common.{◌≡◌, ◌≢◌, refl, sym, ap, ◌∙◌, subst, ℕ, zero, suc, ◌+◌, ◌<◌, ◌≤◌, ◌^◌, ◌==◌, ◌&&◌, ◌||◌, Bool, true, false, if◌then◌else◌, IsTrue, Some, List, [], ◌∷◌, length, get_or, slice_get, eqb-true, arith}
+use Rattle.std.proofs.Common.{◌≡◌, ◌≢◌, refl, sym, ap, ◌∙◌, subst, ℕ, zero, suc, ◌+◌, ◌-◌, ◌%◌, ◌<◌, ◌≤◌, ◌^◌, ◌==◌, ◌&&◌, ◌||◌, Bool, true, false, true≢false, if◌then◌else◌, IsTrue, Some, List, [], ◌∷◌, length, get_or, slice_get, eqb-true, arith}
 use Rattle.std.specs.List.{AllByRecursion, fold}
-use Rattle.std.specs.Int.{w32, w64, cast_signed, cast_unsigned, from_le_bytes}
+use Rattle.std.specs.Int.{w32, w64, cast_signed, cast_unsigned, from_le_bytes, to_le_bytes}
 use Rattle.std.proofs.lemmas.Bool.{and_parts}
 use Rattle.std.proofs.lemmas.Bool.Decides.{nat_tests}
 use Rattle.std.proofs.lemmas.Int.{to_z-of_z}
 use Rattle.std.proofs.lemmas.Nat.{from_le_bytes-to_le_bytes_4}
-use Rattle.mx_base.specs.Memory.{Bytes, list_at, number_at}
+use Rattle.mx_base.specs.Memory.{Bytes, list_at, number_at, with_list}
+use Rattle.mx_base.proofs.MemoryLemmas.{list_at-with_list, number_at-same, number_at-with_number}
+use Rattle.paged_memory.proofs.Numbers.{with_number_bytes}
 use Rattle.obj_file.specs.declared.object.Object.{Object}
 use Rattle.obj_file.specs.declared.object.Fix.{Fix}
 use Rattle.obj_file.specs.declared.image.Image.{Image}
@@ -54,6 +56,28 @@ short_value m at form value fit bytes short = by (form == 0) refl fit bytes
         let signed = fits_word value two.0 two.1 in
         ap (cast_signed w32) (sym (number_of_four m at) ∙ (ap (from_le_bytes w32) bytes ∙ from_le_bytes-to_le_bytes_4 (cast_unsigned w32 value) (below_word value signed)))
         ∙ to_z-of_z w32 value signed
+
+same_number : (n : ℕ) (m other : Bytes) (a : ℕ) → list_at n m a ≡ list_at n other a → number_at n m a ≡ number_at n other a
+same_number n m other a same =
+    number_at-same n m other a
+    (λ x low high.
+    let there : a + (x - a) ≡ x = omega (arith, low) in
+    let within : x - a < n = omega (arith, low, high) in
+    ap m (sym there) ∙ (sym (byte_of_list n m a (x - a) within) ∙ (ap (λ xs. get_or xs (x - a) 0) same ∙ (byte_of_list n other a (x - a) within ∙ ap other there))))
+
+number_of_eight : (m : Bytes) (a v : ℕ) → list_at 8 m a ≡ to_le_bytes w64 v → number_at 8 m a ≡ v % 2 ^ 64
+number_of_eight m a v bytes =
+    same_number 8 m (with_list m a (to_le_bytes w64 v)) a (bytes ∙ sym (list_at-with_list (to_le_bytes w64 v) m a))
+    ∙ (ap (λ other. number_at 8 other a) (with_number_bytes 8 m a v refl) ∙ number_at-with_number 8 m a v)
+
+long_value : (m : Bytes) (at form : ℕ) (value : ℤ) → list_at (fix_size form) m at ≡ field_bytes form value → form ≡ 0 → number_at 8 m at ≡ cast_unsigned w64 value % 2 ^ 64
+unfolding le
+long_value m at form value bytes long = by (form == 0) (ap (λ n. n == 0) long) bytes
+  where
+    by : (b : Bool) → b ≡ true → list_at (if b then 8 else 4) m at ≡ (if b then le w64 (cast_unsigned w64 value) else le w32 (cast_unsigned w32 value))
+        → number_at 8 m at ≡ cast_unsigned w64 value % 2 ^ 64
+    by true e bytes = number_of_eight m at (cast_unsigned w64 value) bytes
+    by false e bytes = absurd (true≢false (sym e))
 
 -- ---- bytes of parts
 
@@ -102,7 +126,7 @@ module _ (os : List Object) (v : Image) (l : AreLinked os v) (k : ℕ) (o : Obje
       (λ j less. ap (bytes_in v) (let e : at + f.offset + j ≡ at + (f.offset + j) = omega arith in e)
       ∙ (byte_there (bytes_in v) at all (f.offset + j) holds (omega (arith, less, within, same, len, size))
       ∙ field_stands os plan k o part (parts_of o) (length o.symbols) no_fix o.fixes bytes n f turn h of_part len j (omega (arith, less, size)))) in
-      record { bytes = there; short = short_value (bytes_in v) (at + f.offset) f.form value (fit_there n f h) there }
+      record { bytes = there; long = long_value (bytes_in v) (at + f.offset) f.form value there; short = short_value (bytes_in v) (at + f.offset) f.form value (fit_there n f h) there }
 
   pub field_there : (n : ℕ) (f : Fix) → slice_get o.fixes n ≡ Some f → HoldsValue (bytes_in v) (field_at (plan_of os) k f) f.form (fix_value os (plan_of os) k o f)
   unfolding part_len

@@ -1,7 +1,7 @@
 -- What is read in a linked image: the fields of fix-ups, and the bytes beside them.
-use Rattle.std.specs.Prelude.{◌≡◌, ◌≢◌, ◌≤◌, ◌<◌, ℕ, ◌+◌, ℤ, Some, List, length, get_or, slice_get}
+use Rattle.std.specs.Prelude.{◌≡◌, ◌≢◌, ◌≤◌, ◌<◌, ℕ, ◌+◌, ◌%◌, ◌^◌, ℤ, Some, List, length, get_or, slice_get}
 use Rattle.std.specs.List.{AllByRecursion}
-use Rattle.std.specs.Int.{w32, cast_signed}
+use Rattle.std.specs.Int.{w32, w64, cast_signed, cast_unsigned}
 use Rattle.mx_base.specs.Memory.{Bytes, list_at, number_at}
 use Rattle.obj_file.specs.declared.object.Object.{Object}
 use Rattle.obj_file.specs.declared.object.Fix.{Fix}
@@ -10,9 +10,10 @@ use Rattle.obj_linker.specs.declared.plan.Plan.{Plan}
 use Rattle.obj_linker.specs.Fixing.{field_at, field_bytes, fix_value}
 use Rattle.obj_linker.specs.Placement.{spot_of}
 
--- a field holds a value: a field of 4 bytes is the value as a signed number
+-- a field holds a value: 8 bytes are the value modulo 2^64, and 4 bytes are the value as a signed number
 pub record HoldsValue (m : Bytes) (at form : ℕ) (value : ℤ) : Type 0 where
   pub bytes : list_at (fix_size form) m at ≡ field_bytes form value
+  pub long : form ≡ 0 → number_at 8 m at ≡ cast_unsigned w64 value % 2 ^ 64
   pub short : form ≢ 0 → cast_signed w32 (number_at 4 m at) ≡ value
 
 -- a byte of a part that isn't in the field of a fix-up

@@ -32,8 +32,8 @@ pub fn parts_stand_at_their_addresses()
     ensures { (os : List Object) (v : Image) → AreLinked os v → HaveParts os (plan_of os) (bytes_in v) }
 {}
 
-/// In the image of linked objects the field of each fix-up holds its value, in 4 bytes as a signed number, and each other byte of a part is
-/// the object's.
+/// In the image of linked objects the field of each fix-up holds its value, in 8 bytes modulo 2^64, and in 4 bytes as a signed number; and
+/// each other byte of a part is the object's.
 pub fn fields_hold_their_values()
     ensures { (os : List Object) (v : Image) → AreLinked os v → AreFilled os (plan_of os) (bytes_in v) }
 {}
