@@ -1,6 +1,6 @@
-mod Bytes
-mod Quiet
-mod Same
-mod Going
-mod Labels
-mod Linker
+pub mod Bytes
+pub mod Quiet
+pub mod Same
+pub mod Going
+pub mod Labels
+pub mod Linker

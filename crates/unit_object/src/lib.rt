@@ -1,0 +1,6 @@
+//! The objects of units: the code of their functions, one behind the other, and what the linker makes of it.
+#![tactic(auto)]
+
+mod laws;
+
+pub use laws::linked_objects_have_the_code_of_their_functions;
