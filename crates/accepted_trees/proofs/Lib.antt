@@ -5,3 +5,6 @@ mod Expressions
 mod ClosingBodies
 mod Initialisers
 mod Statements
+mod Structs
+mod Functions
+mod Planned

@@ -47,10 +47,10 @@ step_word structs t h = size_word structs (target_of t) (target_within structs t
 
 -- ---- alignments are at least 1
 
-next_enough : (n align : ℕ) → 1 ≤ align → n ≤ next_multiple n align
+pub next_enough : (n align : ℕ) → 1 ≤ align → n ≤ next_multiple n align
 next_enough n align some = let positive : 0 < align = some in omega (arith, lt-div-mul-add {a = n + (align - 1)} {b = align} positive)
 
-width_some : (kind : IntKind) → 1 ≤ width kind
+pub width_some : (kind : IntKind) → 1 ≤ width kind
 width_some I8 = omega arith
 width_some U8 = omega arith
 width_some I16 = omega arith
@@ -60,14 +60,14 @@ width_some U32 = omega arith
 width_some I64 = omega arith
 width_some U64 = omega arith
 
-by_some : (laid : ℕ → Layout) → ((n : ℕ) → 1 ≤ (laid n).align) → (t : CType) → 1 ≤ (layout_by laid t).align
+pub by_some : (laid : ℕ → Layout) → ((n : ℕ) → 1 ≤ (laid n).align) → (t : CType) → 1 ≤ (layout_by laid t).align
 by_some laid some Void = omega arith
 by_some laid some (Int kind) = width_some kind
 by_some laid some (Pointer target) = omega arith
 by_some laid some (Array element count) = by_some laid some element
 by_some laid some (Struct number) = some number
 
-widest_some : (ms : List Layout) → 1 ≤ widest ms
+pub widest_some : (ms : List Layout) → 1 ≤ widest ms
 widest_some [] = omega arith
 widest_some (m ∷ ms) = omega (arith, widest_some ms)
 
@@ -99,7 +99,7 @@ repeated_begin zero o size m xs h le = tt
 repeated_begin (suc n) o size m xs h le = let e : size * suc n ≡ size * n + size = mul-suc size n in
     append_begin m (map (scalar_at o) xs) (repeated n (o + size) size xs) (shifted_begin o size m xs (omega (arith, e, le)) h) (repeated_begin n (o + size) size m xs h (omega (arith, e, le)))
 
-end_grows : (laid : ℕ → Layout) → ((n : ℕ) → 1 ≤ (laid n).align) → (free : ℕ) (ts : List CType) → free ≤ end_from free (map (layout_by laid) ts)
+pub end_grows : (laid : ℕ → Layout) → ((n : ℕ) → 1 ≤ (laid n).align) → (free : ℕ) (ts : List CType) → free ≤ end_from free (map (layout_by laid) ts)
 end_grows laid some free [] = omega arith
 end_grows laid some free (t ∷ ts) = omega (arith, next_enough free (layout_by laid t).align (by_some laid some t), end_grows laid some (next_multiple free (layout_by laid t).align + (layout_by laid t).size) ts)
 

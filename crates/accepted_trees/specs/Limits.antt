@@ -9,7 +9,9 @@ use Rattle.bounds_plan.specs.Laws.{most_bytes}
 use Rattle.bounds_plan.specs.ElaborateTypes.{Sort, ANumber, APointer, AWhole, NoValue, sort_of, size_in}
 use Rattle.bounds_plan.specs.ElaborateSource.{Stand, SourceLayout, Meanings, Signature, Around}
 use Rattle.bounds_plan.specs.ElaboratePlaces.{offset_of, offset_in, member_type}
+use Rattle.bounds_plan.specs.ElaborateFunctions.{Defined, no_frame}
 use Rattle.step_code.specs.Asked.{IsLow}
+use Rattle.asked_steps.specs.Trees.{FunctionWithin}
 
 -- ---- types and places
 
@@ -94,3 +96,17 @@ module _ (located : ℕ → Located) (returns : ℕ → Bool) (takes : ℕ → L
     pub literals : (number : ℕ) → slice_index around.layout.literals number < 2 ^ 31
     pub signatures : SignaturesWithin around.signatures
     pub symbols : SymbolsServe around.layout around.signatures
+
+  -- ---- functions of a source
+
+  -- a function whose signature is among these keeps to the limits, where it gives a pointer exactly if its result is one
+  abbrev pub FunctionKeeps : List Signature → Defined → Type 0
+  FunctionKeeps signatures d = (s : Signature) → slice_get signatures d.number ≡ Some s → FunctionWithin located (gives_pointer (sort_of s.result)) returns takes d.function
+
+  abbrev pub AllFunctionsKeep : List Signature → List Defined → Type 0
+  AllFunctionsKeep signatures defined = AllByRecursion (FunctionKeeps signatures) defined
+
+-- the variables of data frames stand at offsets below 2^31, and so do literals behind their symbol
+pub record LayoutWithin (layout : SourceLayout) : Type 0 where
+  pub frames : (body : ℕ) → AllByRecursion StandWithin (slice_index_or layout.frames body no_frame).stands
+  pub literals : (number : ℕ) → slice_index layout.literals number < 2 ^ 31

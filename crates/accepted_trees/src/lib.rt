@@ -3,4 +3,7 @@
 
 mod laws;
 
-pub use laws::{expressions_keep_to_limits, statements_keep_to_limits};
+pub use laws::{
+    accepted_functions_keep_to_limits, expressions_keep_to_limits,
+    planned_functions_keep_to_limits, statements_keep_to_limits,
+};

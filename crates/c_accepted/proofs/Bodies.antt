@@ -61,29 +61,29 @@ pub record ItemGoes (w : Meanings) (gone next : Gone) (old new : State) : Type 0
 
 -- ---- functions that are defined
 
-takes_more : (ss : List Signature) (fs : List Defined) (d : Defined) → AllTakeWhatTheyHave ss fs → TakesWhatItHas ss d → AllTakeWhatTheyHave ss (fs ++ (d ∷ []))
+pub takes_more : (ss : List Signature) (fs : List Defined) (d : Defined) → AllTakeWhatTheyHave ss fs → TakesWhatItHas ss d → AllTakeWhatTheyHave ss (fs ++ (d ∷ []))
 takes_more ss [] d h k = (k, tt)
 takes_more ss (f ∷ fs) d h k = (h.0, takes_more ss fs d h.1 k)
 
-copies_more : (fs : List Defined) (d : Defined) → AllCopySmall fs → OfCopies IsSmall d.function.body → AllCopySmall (fs ++ (d ∷ []))
+pub copies_more : (fs : List Defined) (d : Defined) → AllCopySmall fs → OfCopies IsSmall d.function.body → AllCopySmall (fs ++ (d ∷ []))
 copies_more [] d h k = (k, tt)
 copies_more (f ∷ fs) d h k = (h.0, copies_more fs d h.1 k)
 
-wholes_more : (tree : Tree) (layout : SourceLayout) (fs : List Defined) (d : Defined) → AllNameWholeGlobals tree layout fs → NamesWholeGlobals tree layout d → AllNameWholeGlobals tree layout (fs ++ (d ∷ []))
+pub wholes_more : (tree : Tree) (layout : SourceLayout) (fs : List Defined) (d : Defined) → AllNameWholeGlobals tree layout fs → NamesWholeGlobals tree layout d → AllNameWholeGlobals tree layout (fs ++ (d ∷ []))
 wholes_more tree layout [] d h k = (k, tt)
 wholes_more tree layout (f ∷ fs) d h k = (h.0, wholes_more tree layout fs d h.1 k)
 
-as_many_parameters : (ts : List CType) (x : ℕ) (ss : List Stand) → length (parameters_from x ts ss) ≡ length ts
+pub as_many_parameters : (ts : List CType) (x : ℕ) (ss : List Stand) → length (parameters_from x ts ss) ≡ length ts
 as_many_parameters [] x ss = refl
 as_many_parameters (t ∷ ts) x [] = ap suc (as_many_parameters ts x [])
 as_many_parameters (t ∷ ts) x (s ∷ ss) = ap suc (as_many_parameters ts (x + length (private_values_of (sort_of t) s)) ss)
 
-got_stays : (xs ys : List Signature) (n : ℕ) (s : Signature) → slice_get xs n ≡ Some s → slice_get (xs ++ ys) n ≡ Some s
+pub got_stays : (xs ys : List Signature) (n : ℕ) (s : Signature) → slice_get xs n ≡ Some s → slice_get (xs ++ ys) n ≡ Some s
 got_stays [] ys n s h = cc
 got_stays (x ∷ xs) ys zero s h = h
 got_stays (x ∷ xs) ys (suc n) s h = got_stays xs ys n s h
 
-takes_stay : (ss more : List Signature) (fs : List Defined) → AllTakeWhatTheyHave ss fs → AllTakeWhatTheyHave (ss ++ more) fs
+pub takes_stay : (ss more : List Signature) (fs : List Defined) → AllTakeWhatTheyHave ss fs → AllTakeWhatTheyHave (ss ++ more) fs
 takes_stay ss more [] h = tt
 takes_stay ss more (d ∷ fs) h = (record { signature = h.0.signature; known = got_stays ss more d.number h.0.signature h.0.known; takes = h.0.takes }, takes_stay ss more fs h.1)
 
@@ -113,7 +113,7 @@ pub record BodyGoes (o : Option Stmt) (number : ℕ) (s : Signature) (gone next 
   pub wholes : (tree : Tree) (before more : List Item) → tree.items ≡ before ++ more → gone.around.structs ≡ structs_seen (known_behind before).structs → old.scope.variables ≡ (known_behind before).variables → length (known_behind before).variables ≤ 4294967295
       → AllNameWholeGlobals tree gone.around.layout gone.functions → AllNameWholeGlobals tree gone.around.layout next.functions
 
-past_it : (r : Reached) (m : Meanings) → IsAt r m → IsAt (past_body r) m
+pub past_it : (r : Reached) (m : Meanings) → IsAt r m → IsAt (past_body r) m
 past_it r m h = record { kind = h.kind; name = h.name; declaration = h.declaration }
 
 pub body_goes : (o : Option Stmt) (number : ℕ) (s : Signature) (gone : Gone) (state : State) → Knows gone.around state → IsAt gone.after (meanings_of state.notes) → (maybe_statement o state).broken ≡ [] → Front (meanings_of (maybe_statement o state).state.notes) gone.around.meanings
@@ -172,7 +172,7 @@ pub record Way (number : ℕ) (params : List Decl) (body : Option Stmt) (start n
   pub variables : new.scope.variables ≡ (maybe_statement body (walk_all (map parameter params) start).state).state.scope.variables
   pub bodies : new.bodies ≡ noted_bodies body number (maybe_statement body (walk_all (map parameter params) start).state).state
 
-left : (number : ℕ) (body : Option Stmt) (old new : State) → (meanings_of (leave_function number body old new).notes ≡ meanings_of new.notes) × ((leave_function number body old new).scope.structs ≡ new.scope.structs) × ((leave_function number body old new).scope.functions ≡ new.scope.functions) × ((leave_function number body old new).bodies ≡ noted_bodies body number new) × ((leave_function number body old new).scope.variables ≡ new.scope.variables)
+pub left : (number : ℕ) (body : Option Stmt) (old new : State) → (meanings_of (leave_function number body old new).notes ≡ meanings_of new.notes) × ((leave_function number body old new).scope.structs ≡ new.scope.structs) × ((leave_function number body old new).scope.functions ≡ new.scope.functions) × ((leave_function number body old new).bodies ≡ noted_bodies body number new) × ((leave_function number body old new).scope.variables ≡ new.scope.variables)
 left number None old new = (refl, refl, refl, refl, refl)
 left number (Some x) old new = (refl, refl, refl, refl, refl)
 

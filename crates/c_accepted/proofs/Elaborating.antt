@@ -40,48 +40,48 @@ found_alike x functions scope h = let a = expressions_alike x functions scope h 
 
 -- ---- formed trees
 
-empty_list : {X : Type 0} (xs : List X) → is_empty xs ≡ true → xs ≡ []
+pub empty_list : {X : Type 0} (xs : List X) → is_empty xs ≡ true → xs ≡ []
 empty_list [] h = refl
 empty_list (x ∷ xs) h = cc
 
-plain_params : (params : List Decl) → list_all without_counts params ≡ true → NoCounts params
+pub plain_params : (params : List Decl) → list_all without_counts params ≡ true → NoCounts params
 plain_params [] h = tt
 plain_params (d ∷ more) h = let p = both_true (without_counts d) (list_all without_counts more) h in (empty_list d.counts (both_true (formed_decl d) (is_empty d.counts) p.0).1, plain_params more p.1)
 
-plain_kind : (x : ItemKind) → formed_kind x ≡ true → Plain x
+pub plain_kind : (x : ItemKind) → formed_kind x ≡ true → Plain x
 plain_kind (k.Struct tag members) h = tt
 plain_kind (k.Var external d init) h = tt
 plain_kind (k.Fun d params body) h = let p = both_true (without_counts d && list_all without_counts params) (formed_body body) h in let q = both_true (without_counts d) (list_all without_counts params) p.0 in
     (empty_list d.counts (both_true (formed_decl d) (is_empty d.counts) q.0).1, plain_params params q.1)
 
-all_plain : (all : List Item) → list_all formed_item all ≡ true → AllPlain all
+pub all_plain : (all : List Item) → list_all formed_item all ≡ true → AllPlain all
 all_plain [] h = tt
 all_plain (x ∷ more) h = let p = both_true (formed_item x) (list_all formed_item more) h in (plain_kind x.kind (both_true (stands x.place) (formed_kind x.kind) p.0).1, all_plain more p.1)
 
 -- ---- how many items there are
 
-one_node : (x : ItemKind) → 1 ≤ kind_nodes x
+pub one_node : (x : ItemKind) → 1 ≤ kind_nodes x
 one_node (k.Struct tag members) = omega arith
 one_node (k.Var external d init) = omega arith
 one_node (k.Fun d params body) = omega arith
 
-many_nodes : (all : List Item) → length all ≤ total (map item_nodes all)
+pub many_nodes : (all : List Item) → length all ≤ total (map item_nodes all)
 many_nodes [] = omega arith
 many_nodes (x ∷ more) = omega (arith, one_node x.kind, many_nodes more)
 
-few_by : (all : List Item) (b : Bool) (nodes room : ℕ) → at_first all (breaks TooLarge (nat_lt room nodes)) ≡ [] → length all ≤ nodes → length all ≤ room
+pub few_by : (all : List Item) (b : Bool) (nodes room : ℕ) → at_first all (breaks TooLarge (nat_lt room nodes)) ≡ [] → length all ≤ nodes → length all ≤ room
 few_by [] b nodes room h le = omega arith
 few_by (x ∷ more) b nodes room h le = let small = not_above room nodes (not_broken TooLarge _ (none_at x.place _ h)) in omega (arith, small)
 
-few_items : (tree : Tree) (room : ℕ) → IsAccepted tree room → length tree.items ≤ room
+pub few_items : (tree : Tree) (room : ℕ) → IsAccepted tree room → length tree.items ≤ room
 few_items tree room h = few_by tree.items true (tree_nodes tree) room (first_empty (at_first tree.items (breaks TooLarge (is_too_large tree room))) _ h) (many_nodes tree.items)
 
 -- ---- a whole source
 
-start_stands : (w : Meanings) (layout : SourceLayout) (flags : Flags) → Stands w (elaborated_at_start w layout flags) at_start
+pub start_stands : (w : Meanings) (layout : SourceLayout) (flags : Flags) → Stands w (elaborated_at_start w layout flags) at_start
 start_stands w layout flags = record { at = record { kind = refl; name = refl; declaration = refl }; body = refl; meanings = refl; structs = refl; tags_same = refl; members = refl; signatures = refl }
 
-goes_through : (tree : Tree) (room : ℕ) → IsFormed tree → room ≤ 32768 → IsAccepted tree room → (layout : SourceLayout) (flags : Flags) → let w = meanings_of (after tree).notes in
+pub goes_through : (tree : Tree) (room : ℕ) → IsFormed tree → room ≤ 32768 → IsAccepted tree room → (layout : SourceLayout) (flags : Flags) → let w = meanings_of (after tree).notes in
     ItemsGo w (elaborated_at_start w layout flags) (after_items expression (initialiser expression) bodies (elaborated_at_start w layout flags) tree.items) at_start (after tree)
 goes_through tree room formed few h layout flags = let w = meanings_of (after tree).notes in
     items_go tree.items w (elaborated_at_start w layout flags) at_start (start_stands w layout flags) (all_plain tree.items formed) (omega (arith, few_items tree room h)) (none_broken tree room h) (front_itself w)
@@ -109,7 +109,7 @@ unfolding gone_by
 of_their_bodies tree room formed few h layout flags = let go = goes_through tree room formed few h layout flags in
     subst (λ (l : SourceLayout). AreOfBodies (after tree).scope.structs l 0 (elaborated tree (meanings_of (after tree).notes) layout flags) (after tree).bodies) go.layout (go.of_bodies tt)
 
-few_variables : (tree : Tree) (room : ℕ) → IsFormed tree → room ≤ 32768 → IsAccepted tree room → length (after tree).scope.variables ≤ 4294967295
+pub few_variables : (tree : Tree) (room : ℕ) → IsFormed tree → room ≤ 32768 → IsAccepted tree room → length (after tree).scope.variables ≤ 4294967295
 few_variables tree room formed few h = let many = (numbered_source tree room formed (formed_has_few_stars tree formed) few h).few in omega (arith, many)
 
 pub name_whole_globals : (tree : Tree) (room : ℕ) → IsFormed tree → room ≤ 32768 → IsAccepted tree room → (layout : SourceLayout) (flags : Flags) → AllNameWholeGlobals tree layout (elaborated tree (meanings_of (after tree).notes) layout flags)

@@ -9,7 +9,7 @@ pub mod Elaborating
 pub mod Empty
 pub mod Expressions
 pub mod Filling
-mod Framing
+pub mod Framing
 pub mod Gives
 pub mod Going
 pub mod Heads
@@ -24,8 +24,8 @@ mod Making
 mod Meaning
 mod Meeting
 pub mod Moving
-mod Naming
-mod Numbering
+pub mod Naming
+pub mod Numbering
 pub mod Owns
 mod Places
 mod Planning

@@ -59,23 +59,23 @@ pub record GoesOn (old new : State) : Type 0 where
   pub structs : Begins old.scope.structs new.scope.structs
   pub bodies : Begins old.bodies new.bodies
 
-as_before : {X : Type 0} (xs ys : List X) → ys ≡ xs → Begins xs ys
+pub as_before : {X : Type 0} (xs ys : List X) → ys ≡ xs → Begins xs ys
 as_before xs ys e = subst (λ l. Begins xs l) (sym e) (begins_itself xs)
 
-noted_begin : (body : Option Stmt) (number : ℕ) (two : State) (before now : List CheckedBody) → now ≡ noted_bodies body number two → two.bodies ≡ before → Begins before now
+pub noted_begin : (body : Option Stmt) (number : ℕ) (two : State) (before now : List CheckedBody) → now ≡ noted_bodies body number two → two.bodies ≡ before → Begins before now
 noted_begin None number two before now noted kept = as_before before now (noted ∙ kept)
 noted_begin (Some x) number two before now noted kept = record { more = record { number = number; variables = variables_of two } ∷ []; is = noted ∙ ap (λ l. l ++ (record { number = number; variables = variables_of two } ∷ [])) kept }
 
-fills_move : (init : Option Init) (around : Around) (kind : CType) (state : State) → Knows around state → (maybe_fills init f.Global (Some kind) state).broken ≡ []
+pub fills_move : (init : Option Init) (around : Around) (kind : CType) (state : State) → Knows around state → (maybe_fills init f.Global (Some kind) state).broken ≡ []
     → Moves around state (maybe_fills init f.Global (Some kind) state).state 0 (λ r. past_initialiser (maybe (initialiser expression) init) around kind r)
 fills_move None around kind state knows h = moves_not around state
 fills_move (Some x) around kind state knows h = (initialisers_alike x).moves f.Global kind state around knows (InMemory Null) 0 h
 
 -- with these structs around it
-abbrev knowing : Around → State → Around
+abbrev pub knowing : Around → State → Around
 knowing around state = record around { structs = structs_seen state.scope.structs }
 
-global_on : (external : Bool) (d : Decl) (init : Option Init) (around : Around) (state : State) → (global_walk external d init state).broken ≡ [] → GoesOn state (global_walk external d init state).state
+pub global_on : (external : Bool) (d : Decl) (init : Option Init) (around : Around) (state : State) → (global_walk external d init state).broken ≡ [] → GoesOn state (global_walk external d init state).state
 global_on external d init around state h =
     let defined = is_definition external init in let declared = global_declared defined d state in let behind = maybe_fills init f.Global in
     let known = declares_well u.Variable (global_twice d.name) (is_main d.name) (with_variable d.name defined) d state (none_in declared behind h) in
@@ -87,7 +87,7 @@ global_on external d init around state h =
       bodies = as_before state.bodies _ (kept_maybe_fills init f.Global (Some known.kind) mid);
     }
 
-function_on : (d : Decl) (params : List Decl) (body : Option Stmt) (place : Place) (around : Around) (state : State) → (function_walk d params body place state).broken ≡ [] → GoesOn state (function_walk d params body place state).state
+pub function_on : (d : Decl) (params : List Decl) (body : Option Stmt) (place : Place) (around : Around) (state : State) → (function_walk d params body place state).broken ≡ [] → GoesOn state (function_walk d params body place state).state
 function_on d params body place around state h =
     let declared = function_declared (is_some body) params d state in let number = number_of d.name state.scope in let behind = function_after number d params body place in
     let known = declares_well u.Result (function_twice d.name params) false (checked_function d.name params (is_some body)) d state (none_in declared behind h) in
@@ -102,12 +102,12 @@ function_on d params body place around state h =
       bodies = noted_begin body number (maybe_statement body one).state state.bodies _ by.bodies (kept_maybe_statement body one ∙ kept_params params start);
     }
 
-item_on : (x : ItemKind) (place : Place) (around : Around) (state : State) → (item_kind x place state).broken ≡ [] → GoesOn state (item_kind x place state).state
+pub item_on : (x : ItemKind) (place : Place) (around : Around) (state : State) → (item_kind x place state).broken ≡ [] → GoesOn state (item_kind x place state).state
 item_on (k.Struct tag members) place around state h = let s = struct_well tag members place state h in record { notes = s.on; structs = s.begins; bodies = as_before state.bodies _ (kept_struct tag members place state) }
 item_on (k.Var external d init) place around state h = global_on external d init around state h
 item_on (k.Fun d params body) place around state h = function_on d params body place around state h
 
-items_on : (all : List Item) (around : Around) (state : State) → (items all state).broken ≡ [] → GoesOn state (items all state).state
+pub items_on : (all : List Item) (around : Around) (state : State) → (items all state).broken ≡ [] → GoesOn state (items all state).state
 unfolding ◌then◌
 items_on [] around state h = record { notes = front_itself (meanings_of state.notes); structs = begins_itself state.scope.structs; bodies = begins_itself state.bodies }
 items_on (x ∷ more) around state h = let one = item_on x.kind x.place around state (first_empty (item x state).broken _ h) in
@@ -116,11 +116,11 @@ items_on (x ∷ more) around state h = let one = item_on x.kind x.place around s
 
 -- ---- structs and global variables
 
-as_many : {X Y : Type 0} (f : X → Y) (xs : List X) → length (map f xs) ≡ length xs
+pub as_many : {X Y : Type 0} (f : X → Y) (xs : List X) → length (map f xs) ≡ length xs
 as_many f [] = refl
 as_many f (x ∷ xs) = ap suc (as_many f xs)
 
-struct_goes : (tag : List ℕ) (all : List Decl) (place : Place) (w : Meanings) (gone : Gone) (state : State) → Stands w gone state → (struct_walk tag all place state).broken ≡ [] → Front (meanings_of (struct_walk tag all place state).state.notes) w
+pub struct_goes : (tag : List ℕ) (all : List Decl) (place : Place) (w : Meanings) (gone : Gone) (state : State) → Stands w gone state → (struct_walk tag all place state).broken ≡ [] → Front (meanings_of (struct_walk tag all place state).state.notes) w
     → ItemGoes w gone (after_item expression (initialiser expression) bodies gone (k.Struct tag all)) state (struct_walk tag all place state).state
 struct_goes tag all place w gone state st h f =
     let s = struct_well tag all place state h in let wf = subst (Front _) (sym st.meanings) f in let ms = declared_all expression past_member all gone.around gone.after in
@@ -144,11 +144,11 @@ struct_goes tag all place w gone state st h f =
       framed = λ all begins planned framed. framed;
     }
 
-filled_same : (init : Option Init) (around : Around) (type : CType) (r : Reached) → (past_initialiser (maybe (initialiser expression) init) around type r).body ≡ r.body
+pub filled_same : (init : Option Init) (around : Around) (type : CType) (r : Reached) → (past_initialiser (maybe (initialiser expression) init) around type r).body ≡ r.body
 filled_same None around type r = refl
 filled_same (Some x) around type r = initialisers_same x around type (InMemory Null) 0 r
 
-global_goes : (external : Bool) (d : Decl) (init : Option Init) (w : Meanings) (gone : Gone) (state : State) → Stands w gone state → (global_walk external d init state).broken ≡ [] → Front (meanings_of (global_walk external d init state).state.notes) w
+pub global_goes : (external : Bool) (d : Decl) (init : Option Init) (w : Meanings) (gone : Gone) (state : State) → Stands w gone state → (global_walk external d init state).broken ≡ [] → Front (meanings_of (global_walk external d init state).state.notes) w
     → ItemGoes w gone (after_item expression (initialiser expression) bodies gone (k.Var external d init)) state (global_walk external d init state).state
 global_goes external d init w gone state st h front =
     let defined = is_definition external init in let declared = global_declared defined d state in let behind = maybe_fills init f.Global in
@@ -193,7 +193,7 @@ abbrev pub AllPlain : List Item → Type 0
 AllPlain [] = Unit {0}
 AllPlain (x ∷ more) = Plain x.kind × AllPlain more
 
-item_goes : (x : ItemKind) (place : Place) (w : Meanings) (gone : Gone) (state : State) → Stands w gone state → Plain x → length state.scope.functions < 4294967295 → (item_kind x place state).broken ≡ [] → Front (meanings_of (item_kind x place state).state.notes) w
+pub item_goes : (x : ItemKind) (place : Place) (w : Meanings) (gone : Gone) (state : State) → Stands w gone state → Plain x → length state.scope.functions < 4294967295 → (item_kind x place state).broken ≡ [] → Front (meanings_of (item_kind x place state).state.notes) w
     → ItemGoes w gone (after_item expression (initialiser expression) bodies gone x) state (item_kind x place state).state
 item_goes (k.Struct tag members) place w gone state st plain few h f = struct_goes tag members place w gone state st h f
 item_goes (k.Var external d init) place w gone state st plain few h f = global_goes external d init w gone state st h f
@@ -228,7 +228,7 @@ items_go (x ∷ more) w gone state st plain few h f =
       copies = λ small all. rest.copies small (one.copies (small state.scope.structs (begins_then _ _ _ here.structs on.structs)) all);
     }
 
-items_more : (before : List Item) (x : Item) (state : State) → (items (before ++ (x ∷ [])) state).state ≡ (item x (items before state).state).state
+pub items_more : (before : List Item) (x : Item) (state : State) → (items (before ++ (x ∷ [])) state).state ≡ (item x (items before state).state).state
 unfolding ◌then◌
 items_more [] x state = refl
 items_more (y ∷ before) x state = items_more before x (item y state).state

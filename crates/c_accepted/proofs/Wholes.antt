@@ -38,11 +38,11 @@ use Rattle.c_accepted.proofs.Numbering.{declared_same}
 use Rattle.c_accepted.proofs.Stating.{after_declared, none_after, none_in}
 use Rattle.c_accepted.proofs.Bodies.{Stands, ItemGoes, bodies, next_frame, noted_bodies, body_goes, same_but, known_signatures, takes_known, Way, way, grows_maybe}
 
-behind_no_counts : (d : Decl) (around : Around) (r : Reached) → d.counts ≡ [] → past_counts expression d around r ≡ r
+pub behind_no_counts : (d : Decl) (around : Around) (r : Reached) → d.counts ≡ [] → past_counts expression d around r ≡ r
 behind_no_counts d around r none = ap (λ cs. (find_all (map expression cs) around r).after) none
 
 -- the frame of a body has room for its parameters
-room_in : (body : Option Stmt) (number : ℕ) (before : List CheckedBody) (two : State) (all now : List CheckedBody) (frame : FrameLayout) (frames : List FrameLayout) (params types others made : List CType) → length params ≡ length types → made ≡ [] ++ types → two.scope.made ≡ made ++ others
+pub room_in : (body : Option Stmt) (number : ℕ) (before : List CheckedBody) (two : State) (all now : List CheckedBody) (frame : FrameLayout) (frames : List FrameLayout) (params types others made : List CType) → length params ≡ length types → made ≡ [] ++ types → two.scope.made ≡ made ++ others
     → two.bodies ≡ before → now ≡ noted_bodies body number two → Begins now all → frame ≡ slice_index_or frames (length before) no_frame → AllPlanned all frames → is_some body ≡ true → length params ≤ length frame.stands
 room_in None number before two all now frame frames params types others made e m o kept noted begins f planned is = cc
 room_in (Some x) number before two all now frame frames params types others made e m o kept noted begins f planned is =
@@ -51,7 +51,7 @@ room_in (Some x) number before two all now frame frames params types others made
     let le = frame_has_room before b begins.more all frames types others two.scope.made two.notes.taken whole refl (o ∙ ap (λ l. l ++ others) m) planned in
     omega (arith, e, le, ap (λ (x : FrameLayout). length x.stands) f)
 
-inner_goes : (d : Decl) (params : List Decl) (body : Option Stmt) (w : Meanings) (gone : Gone) (state : State) (kind : CType) → Stands w gone state → Goes (counts_of state d).after (past_counts expression d) → d.counts ≡ [] → NoCounts params
+pub inner_goes : (d : Decl) (params : List Decl) (body : Option Stmt) (w : Meanings) (gone : Gone) (state : State) (kind : CType) → Stands w gone state → Goes (counts_of state d).after (past_counts expression d) → d.counts ≡ [] → NoCounts params
     → length state.scope.functions < 4294967295 → function_twice d.name params state.scope (Some kind) ≡ false → (new : State)
     → Way (number_of d.name state.scope) params body (enter_function (Some kind) (checked_function d.name params (is_some body) kind (after_counts state d))) new → Front (meanings_of new.notes) w
     → ItemGoes w gone (with_function expression d params (maybe bodies body) gone) state new
