@@ -158,11 +158,7 @@ module _ (located : ℕ → Located) (returns : ℕ → Bool) (takes : ℕ → L
       record { front = w; types = types; within = around_in; few = few; signatures = same } refl gone.after (front_itself m) at in
       let whole : FunctionWithin located (gives_pointer (sort_of s.result)) returns takes (function_with gone.around.structs s.parameters (s.parameters ++ next) frame (statement_by expression (initialiser expression) stmt around gone.after).statement)
       = record { parameters = parameters_within 0 s.parameters frame.stands stand; body = stated } in
-      each_both (FunctionKeeps located returns takes finals) gone.functions _ all (
-        (λ z e. subst (λ y. FunctionWithin located (gives_pointer (sort_of y.result)) returns takes (function_with gone.around.structs s.parameters (s.parameters ++ next) frame (statement_by expression (initialiser expression) stmt around gone.after).statement))
-            (same_some s z (sym (got_in gone.around.signatures finals number s first there) ∙ e)) whole),
-        tt,
-      )
+      each_both (FunctionKeeps located returns takes finals) gone.functions _ all (record { signature = s; known = got_in gone.around.signatures finals number s first there; within = whole }, tt)
 
   body_around : (body : Option Stmt) (number : ℕ) (s : Signature) (gone : Gone) → (with_body (maybe bodies body) number s gone).around ≡ gone.around
   body_around None number s gone = refl

@@ -100,8 +100,10 @@ module _ (located : ℕ → Located) (returns : ℕ → Bool) (takes : ℕ → L
   -- ---- functions of a source
 
   -- a function whose signature is among these keeps to the limits, where it gives a pointer exactly if its result is one
-  abbrev pub FunctionKeeps : List Signature → Defined → Type 0
-  FunctionKeeps signatures d = (s : Signature) → slice_get signatures d.number ≡ Some s → FunctionWithin located (gives_pointer (sort_of s.result)) returns takes d.function
+  pub record FunctionKeeps (signatures : List Signature) (d : Defined) : Type 0 where
+    pub signature : Signature
+    pub known : slice_get signatures d.number ≡ Some signature
+    pub within : FunctionWithin located (gives_pointer (sort_of signature.result)) returns takes d.function
 
   abbrev pub AllFunctionsKeep : List Signature → List Defined → Type 0
   AllFunctionsKeep signatures defined = AllByRecursion (FunctionKeeps signatures) defined
