@@ -1,5 +1,5 @@
--- For which registers the values wish in which a function's arguments arrive: each number for the register at its place among the arguments,
--- and bounds that arrive in BND2 and BND3 for those.
+-- For which registers the values wish in which a function's arguments arrive: each number for the register at its place among the
+-- arguments, and bounds that arrive in BND2 and BND3 for those.
 use Rattle.std.specs.Prelude.{ℕ, ◌+◌, Bool, true, false, if◌then◌else◌, List, [], ◌∷◌, length}
 use Rattle.fat_ir.specs.Functions.{Parameter}
 use Rattle.step_code.specs.Homing.{width_of}

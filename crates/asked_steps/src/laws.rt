@@ -20,6 +20,7 @@ ghost use Rattle.reg_assign.specs.Wishing.{AreWishes};
 ghost use Rattle.asked_steps.specs.Alone.{AllLimited};
 ghost use Rattle.asked_steps.specs.Assigned.{HasSpare};
 ghost use Rattle.asked_steps.specs.Homes.{HomesServe};
+ghost use Rattle.asked_steps.specs.Nodes.{nodes_in};
 ghost use Rattle.asked_steps.specs.Trees.{FunctionWithin};
 ghost use Rattle.asked_steps.specs.Wishes.{parameters_wish};
 
@@ -41,6 +42,18 @@ pub fn steps_within_limits_have_few_bytes()
         → (located : ℕ → Located) (pointer : Bool) (returns : ℕ → Bool) (takes : ℕ → List (ℕ × Option ℕ) → Bool)
         → AllLimited located pointer returns takes steps → size_of_steps p steps ≤ 270 * length steps }
     ensures places { (p : Plan) (at : ℕ) (steps : List FatStep) → length (places_of_steps p at steps) ≤ 2 * length steps }
+{}
+
+/// A compiled function has at most nine steps for each node of its tree. So it has at most 18 places of checks for each, and where the
+/// tree keeps to the limits 2,430 bytes of code.
+pub fn compiled_functions_are_small()
+    ensures steps { (f : FunctionOfC) (name : ℕ) → length (fat_function name f).steps ≤ 9 * nodes_in f }
+    ensures bytes { (f : FunctionOfC) (p : Plan) (returns : ℕ → Bool) (takes : ℕ → List (ℕ × Option ℕ) → Bool)
+        → FunctionWithin p.located p.pointer returns takes f → (name : ℕ) (label_at entry_at : ℕ → ℕ) (at : ℕ)
+        → AllStepsValid p label_at entry_at at (fat_function name f).steps
+        → size_of_steps p (fat_function name f).steps ≤ 2430 * nodes_in f }
+    ensures places { (f : FunctionOfC) (name : ℕ) (p : Plan) (at : ℕ)
+        → length (places_of_steps p at (fat_function name f).steps) ≤ 18 * nodes_in f }
 {}
 
 /// Steps are what code asks of them, where they name values of their sorts, keep to the limits, and jump to labels that stand once

@@ -5,7 +5,7 @@
 mod laws;
 
 pub use laws::{
-    assigned_homes_serve, compiled_functions_are_what_code_asks, compiled_functions_keep_to_limits,
-    parameters_may_wish, steps_within_limits_are_what_code_asks,
+    assigned_homes_serve, compiled_functions_are_small, compiled_functions_are_what_code_asks,
+    compiled_functions_keep_to_limits, parameters_may_wish, steps_within_limits_are_what_code_asks,
     steps_within_limits_have_few_bytes,
 };
