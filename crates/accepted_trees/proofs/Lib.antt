@@ -8,3 +8,4 @@ mod Statements
 mod Structs
 mod Functions
 mod Planned
+mod Linked

@@ -15,6 +15,7 @@ ghost use Rattle.c_check_statements.specs.Statements.{statement};
 ghost use Rattle.c_check.specs.Standing.{structs_seen};
 ghost use Rattle.c_check.specs.Accepted.{IsAccepted, after};
 ghost use Rattle.fat_ir.specs.Step.{Located};
+ghost use Rattle.bounds_plan.specs.Functions.{Linked};
 ghost use Rattle.bounds_plan.specs.ElaborateTypes.{sort_of};
 ghost use Rattle.bounds_plan.specs.ElaborateSource.{Reached, SourceLayout, Around};
 ghost use Rattle.bounds_plan.specs.ElaborateExpressions.{expression};
@@ -22,9 +23,11 @@ ghost use Rattle.bounds_plan.specs.ElaborateInitialisers.{initialiser};
 ghost use Rattle.bounds_plan.specs.ElaborateStatements.{statement_by};
 ghost use Rattle.bounds_plan.specs.ElaborateFunctions.{elaborated, signatures_of};
 ghost use Rattle.c_accepted.specs.Alike.{meanings_of, signatures_seen, IsAt, Front};
+ghost use Rattle.c_accepted.specs.Linked.{declared_by, IsLinked};
 ghost use Rattle.c_accepted.specs.Planned.{layout_of_plan};
 ghost use Rattle.asked_steps.specs.Trees.{EffectWithin, StatementWithin};
-ghost use Rattle.accepted_trees.specs.Limits.{MeaningsWithin, AroundWithin, LayoutWithin, SymbolsServe, AllFunctionsKeep, gives_pointer};
+ghost use Rattle.accepted_trees.specs.Limits.{MeaningsWithin, AroundWithin, LayoutWithin, gives_pointer};
+ghost use Rattle.accepted_trees.specs.Limits.{SymbolsServe, FunctionKeeps, AllFunctionsKeep};
 
 use place_plan::planned_frames_are_small;
 
@@ -76,3 +79,12 @@ pub fn planned_functions_keep_to_limits()
 {
     planned_frames_are_small();
 }
+
+/// So does each function of a linked program, in the layout of its source: it is one that the source declares, and it gives a pointer
+/// exactly if the source declares it so.
+pub fn linked_functions_keep_to_limits()
+    ensures { (located : ℕ → Located) (returns : ℕ → Bool) (takes : ℕ → List (ℕ × Option ℕ) → Bool)
+        (takes_outside : ℕ → ℕ) (program : ℕ → Linked) (linked : IsLinked takes_outside program) (f : ℕ) → let source = (linked f).source in
+        LayoutWithin source.layout → SymbolsServe located returns takes source.layout (declared_by source)
+        → FunctionKeeps located returns takes (declared_by source) record { number = (linked f).one.d.number; function = (program f).fun } }
+{}

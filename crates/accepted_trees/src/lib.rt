@@ -4,6 +4,6 @@
 mod laws;
 
 pub use laws::{
-    accepted_functions_keep_to_limits, expressions_keep_to_limits,
+    accepted_functions_keep_to_limits, expressions_keep_to_limits, linked_functions_keep_to_limits,
     planned_functions_keep_to_limits, statements_keep_to_limits,
 };
