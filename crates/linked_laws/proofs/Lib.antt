@@ -15,3 +15,4 @@ pub mod Fields
 pub mod Filled
 pub mod Calls
 pub mod Signed
+pub mod Outside

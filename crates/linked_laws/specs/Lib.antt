@@ -3,3 +3,4 @@ pub mod Linked
 pub mod Linkage
 pub mod Fields
 pub mod Calls
+pub mod Outside

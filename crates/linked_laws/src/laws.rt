@@ -18,6 +18,8 @@ ghost use Rattle.linked_laws.specs.Alike.{AreAlike};
 ghost use Rattle.linked_laws.specs.Calls.{LeadsToFunction, LeadsToOuter, LeadsToStub, name_of};
 ghost use Rattle.linked_laws.specs.Fields.{AreFilled};
 ghost use Rattle.linked_laws.specs.Linkage.{called_at, function_at, inner_of, linkage_of, main_of, stub_of};
+ghost use Rattle.obj_linker.specs.Fixing.{fixed_part};
+ghost use Rattle.linked_laws.specs.Outside.{AreSameOutside};
 ghost use Rattle.linked_laws.specs.Linked.{AreLinked, HaveParts, HoldsBytes, bytes_in};
 
 /// The image of linked objects keeps all rules of images: segments are in order and apart, each within one region of code or data, files
@@ -88,4 +90,15 @@ pub fn places_stay_where_instrumented_code_grows()
         → (spot_of (plan_of ps) k).stored ≡ (spot_of (plan_of os) k).stored }
     ensures legacy { (os ps : List Object) → AreAlike os ps → (k : ℕ) (o : Object) → slice_get os k ≡ Some o → o.legacy ≡ true
         → (spot_of (plan_of ps) k).code ≡ (spot_of (plan_of os) k).code }
+{}
+
+/// What legacy code and data hold, fields included, and which number and so which outer entry a C function has doesn't depend on
+/// instrumented code: it is the same for objects that differ in that alone, where no field in the data of an instrumented object is
+/// relative.
+pub fn legacy_code_and_data_stay_where_instrumented_code_changes()
+    ensures stored { (os ps : List Object) → AreSameOutside os ps → (k : ℕ) (o p : Object) → slice_get os k ≡ Some o
+        → slice_get ps k ≡ Some p → fixed_part ps (plan_of ps) k p 2 ≡ fixed_part os (plan_of os) k o 2 }
+    ensures legacy { (os ps : List Object) → AreSameOutside os ps → (k : ℕ) (o p : Object) → slice_get os k ≡ Some o
+        → slice_get ps k ≡ Some p → o.legacy ≡ true → fixed_part ps (plan_of ps) k p 1 ≡ fixed_part os (plan_of os) k o 1 }
+    ensures outers { (os ps : List Object) → AreSameOutside os ps → (plan_of ps).functions ≡ (plan_of os).functions }
 {}
