@@ -16,3 +16,4 @@ pub mod Filled
 pub mod Calls
 pub mod Signed
 pub mod Outside
+pub mod Pair

@@ -1,6 +1,6 @@
 //! Laws of linked images. Each function does nothing, and its contract is the law.
 
-ghost use Rattle.std.specs.Prelude.{◌≡◌, ◌<◌, ℕ, Bool, true, false, Some, List, length, slice_get};
+ghost use Rattle.std.specs.Prelude.{◌≡◌, ◌<◌, ℕ, Bool, true, false, Some, List, [], ◌∷◌, length, slice_get};
 ghost use Rattle.std.specs.List.{All};
 ghost use Rattle.obj_file.specs.declared.object.Object.{Object};
 ghost use Rattle.obj_file.specs.declared.object.Fix.{Fix};
@@ -18,9 +18,17 @@ ghost use Rattle.linked_laws.specs.Alike.{AreAlike};
 ghost use Rattle.linked_laws.specs.Calls.{LeadsToFunction, LeadsToOuter, LeadsToStub, name_of};
 ghost use Rattle.linked_laws.specs.Fields.{AreFilled};
 ghost use Rattle.linked_laws.specs.Linkage.{called_at, function_at, inner_of, linkage_of, main_of, stub_of};
+ghost use Rattle.obj_linker.specs.Examples.{caller, legacy};
 ghost use Rattle.obj_linker.specs.Fixing.{fixed_part};
+ghost use Rattle.obj_linker.specs.Gating.{mpx_gates};
+ghost use Rattle.obj_linker.specs.Image.{image_of};
 ghost use Rattle.linked_laws.specs.Outside.{AreSameOutside};
 ghost use Rattle.linked_laws.specs.Linked.{AreLinked, HaveParts, HoldsBytes, bytes_in};
+
+/// The objects of `small_images` of `obj_linker`, which call both ways, keep the rules of objects and are linked.
+pub fn a_pair_of_objects_is_linked()
+    ensures { AreLinked (caller ∷ legacy ∷ []) (image_of mpx_gates (caller ∷ legacy ∷ [])) }
+{}
 
 /// The image of linked objects keeps all rules of images: segments are in order and apart, each within one region of code or data, files
 /// have names, and places stand in order in instrumented code.

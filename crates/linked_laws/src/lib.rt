@@ -5,8 +5,9 @@
 mod laws;
 
 pub use laws::{
-    fields_hold_their_values, fix_ups_lead_to_entries, functions_at_the_border_have_signatures,
-    gates_stand_where_they_are_wanted, legacy_code_and_data_stay_where_instrumented_code_changes,
-    linked_images_are_loaded, linked_objects_make_an_image, linked_segments_hold_bytes,
-    parts_stand_at_their_addresses, places_stay_where_instrumented_code_grows,
+    a_pair_of_objects_is_linked, fields_hold_their_values, fix_ups_lead_to_entries,
+    functions_at_the_border_have_signatures, gates_stand_where_they_are_wanted,
+    legacy_code_and_data_stay_where_instrumented_code_changes, linked_images_are_loaded,
+    linked_objects_make_an_image, linked_segments_hold_bytes, parts_stand_at_their_addresses,
+    places_stay_where_instrumented_code_grows,
 };
