@@ -1,0 +1,3 @@
+mod StatementForms
+mod EffectLemmas
+mod WalkLemmas
