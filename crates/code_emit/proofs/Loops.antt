@@ -1,5 +1,5 @@
 -- What the loops that put bytes at the end of code keep.
-use Rattle.std.specs.Prelude.{Result, Ok, Err, OnOk}
+use Rattle.std.specs.Prelude.{Result, Ok, Err, OnOk, IfOk}
 use Rattle.std.proofs.Common.{◌≡◌, ℕ, suc, ◌+◌, ◌-◌, ◌<◌, arith, List, [], ◌∷◌, ◌++◌, length, drop, get_or, append_assoc, length-append, refl, ap, ◌∙◌, sym}
 use Rattle.std.proofs.lemmas.List.{at_drop_more}
 use Rattle.fat_ir.specs.declared.step.FatStep.{FatStep}
@@ -14,6 +14,11 @@ use Rattle.code_emit.proofs.Sized.{blank_size}
 pub map_ok : {T E P Q : Type 0} → (r : Result T E) → (P → Q) → OnOk r P → OnOk r Q
 map_ok (Ok v) f p = f p
 map_ok (Err e) f p = p
+
+-- what holds of a good answer's value, from what was shown of it
+pub map_if : {T E : Type 0} → (r : Result T E) → (P Q : T → Type 0) → ((v : T) → P v → Q v) → IfOk r P → IfOk r Q
+map_if (Ok v) P Q f p = f v p
+map_if (Err e) P Q f p = p
 
 pub length_unlinked : (labels : List ℕ) (at : ℕ) (ps : List Piece) → length (unlinked_pieces labels at ps) ≡ size_of_pieces ps
 length_unlinked labels at [] = refl

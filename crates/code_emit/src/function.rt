@@ -109,6 +109,27 @@ fn put_step(
     put_pieces(code, labels, pieces.as_slice())
 }
 
+/// Where the steps of a function that begins at `at` stand, behind its inner entry and the homing of its arguments.
+///
+/// # Errors
+///
+/// `OutOfMemory`: no memory for pieces, or a number that no instruction has room for.
+pub fn steps_at(
+    alloc: Global,
+    p: &FunctionPlan,
+    f: &FatFun,
+    parameters: &[Parameter],
+    units: u32,
+    at: u32,
+) -> Result<u32, OutOfMemory>
+    ensures { IfOk result (λ n. n ≡ u.steps_at (plan_of p.now) f.now (parameters_of parameters.now) units at) }
+{
+    let mut home = Vec::new(alloc);
+    put_homing(&mut home, p, f.private, parameters)?;
+    let homing = add(at, size_of_all(&inner_entry(f.frame, units))?)?;
+    add(homing, size_of_all(home.as_slice())?)
+}
+
 /// Notes the offset of each label of a function that begins at `at`, that of its end with them. `labels` has room for each label.
 ///
 /// # Errors
@@ -126,10 +147,7 @@ pub fn place_labels(
     ensures { OnOk result (labels.new.items
         ≡ u.function_labels (plan_of p.now) f.now (parameters_of parameters.now) units at labels.old.items) }
 {
-    let mut home = Vec::new(alloc);
-    put_homing(&mut home, p, f.private, parameters)?;
-    let homing = add(at, size_of_all(&inner_entry(f.frame, units))?)?;
-    let first = add(homing, size_of_all(home.as_slice())?)?;
+    let first = steps_at(alloc, p, f, parameters, units, at)?;
     let last = note_labels(alloc, labels, p, f.steps.as_slice(), first)?;
     let exit = add(last, size_of_all(&end())?)?;
     set_label(labels, p.exit, exit);

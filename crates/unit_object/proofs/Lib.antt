@@ -1,2 +1,3 @@
 mod Long
 mod Unit
+mod Given

@@ -1,11 +1,12 @@
 -- The code of a unit's functions, one behind the other, before the link and after it.
 use Rattle.std.specs.Prelude.{ℕ, ◌+◌, Bool, List, [], ◌∷◌, ◌++◌, length}
+use Rattle.obj_file.specs.declared.object.Spot3.{Spot3}
 use Rattle.fat_ir.specs.declared.program.FatFun.{FatFun}
 use Rattle.fat_ir.specs.Functions.{Parameter}
 use Rattle.step_code.specs.Steps.{Plan}
 use Rattle.step_code.specs.Functions.{Layout, bytes_of_function}
 use Rattle.code_emit.specs.declared.fields.Field.{Field}
-use Rattle.code_emit.specs.Unlinked.{unlinked_function, function_labels, fields_of_steps, steps_at}
+use Rattle.code_emit.specs.Unlinked.{unlinked_function, function_labels, fields_of_steps, spots_of_steps, steps_at}
 use Rattle.linked_code.specs.Filled.{unlinked_plan, with_symbols, linked_layout}
 
 -- a function with what its code goes by: its plan, its parameters, how many words of the control stack its frame has, a list with room for
@@ -33,6 +34,9 @@ module _ (is_function : ℕ → Bool) where
 
   abbrev pub fields_from : ℕ → Coded → List Field
   fields_from at c = fields_of_steps (plan_before c) (steps_at (plan_before c) c.fun c.parameters c.units at) c.fun.steps
+
+  abbrev pub spots_from : ℕ → Coded → List Spot3
+  spots_from at c = spots_of_steps (plan_before c) (steps_at (plan_before c) c.fun c.parameters c.units at) c.fun.steps
 
   -- the offset behind it
   abbrev pub past : ℕ → Coded → ℕ
