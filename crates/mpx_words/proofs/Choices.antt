@@ -1,46 +1,18 @@
--- Files that there may be, and what is due of a refused one.
-use Rattle.std.proofs.Common.{◌≡◌, ℕ, ◌<◌, ◌≤◌, Bool, true, false, cond, nat_lt, Option, None, Some, Err, List, [], length, refl, sym, ap, ◌∙◌, subst, arith}
+-- What is due of a refused file.
+use Rattle.std.proofs.Common.{◌≡◌, ℕ, ◌<◌, ◌≤◌, Bool, true, false, cond, nat_lt, Option, None, Some, Ok, Err, List, [], ◌∷◌, length, refl, sym, ap, ◌∙◌, subst, arith}
 use Rattle.std.specs.Prelude.{Result}
-use Rattle.std.specs.Str.{bytes_eq}
 use Rattle.std.proofs.lemmas.Bool.Decides.{nat_tests}
-use Rattle.std.proofs.lemmas.Slice.Eq.{bytes_eq-Decides}
 use Rattle.mx_base.specs.Outside.{FileFacts, Untold, Absent, Holds, Adds}
 use Rattle.obj_file.specs.Machine.{Reading}
 use Rattle.mpx_words.specs.declared.end.End.{End}
 use Rattle.mpx_words.specs.declared.end.End.TheVariants as end
 use Rattle.mpx_words.specs.Answers.{LeavesInput, Whole, FileUnread, LacksMemory, Answers, Serves, Untouched, IsDone, IsPlain, KeepsFiles, Reports}
-use Rattle.mpx_words.specs.Commands.{Command, Run, Exec, Dis, Gen, Make}
+use Rattle.mpx_words.specs.Commands.{Command, Run, Exec, Dis, Gen, Make, Link, files_of}
 use Rattle.mpx_words.specs.Due.{Due, IsDue, refused}
 use Rattle.mpx_words.specs.Ends.{line_of, status_of}
-use Rattle.mpx_words.specs.Files.{Content, MayBe, file_limit, Form, formed, IsRefused, LoadCounts}
+use Rattle.mpx_words.specs.Files.{Content, MayBe, MayEachBe, file_limit, Form, formed, IsRefused, LoadCounts}
 use Rattle.mpx_words.specs.Outside.{Stream, Outside, stream}
 use Rattle.mpx_words.proofs.Puts.{adds_nothing}
-
--- ---- files
-
-abbrev pub plainly : FileFacts → Content
-plainly Untold = None
-plainly Absent = None
-plainly (Holds bytes) = Some bytes
-
-pub may_plainly : (facts : FileFacts) → MayBe facts (plainly facts)
-may_plainly Untold = tt
-may_plainly Absent = refl
-may_plainly (Holds bytes) = refl
-
--- the files that are told, one of them with this content
-abbrev pub with_file : (List ℕ → FileFacts) → List ℕ → Content → List ℕ → Content
-with_file told file content n = cond (bytes_eq n file) content (plainly (told n))
-
-pub may_with : (told : List ℕ → FileFacts) (file : List ℕ) (content : Content) → MayBe (told file) content → (n : List ℕ) → MayBe (told n) (with_file told file content n)
-may_with told file content h n = by (bytes_eq n file) refl
-  where
-    by : (b : Bool) → bytes_eq n file ≡ b → MayBe (told n) (cond b content (plainly (told n)))
-    by true e = subst (λ (k : List ℕ). MayBe (told k) content) (sym ((bytes_eq-Decides n file).0 e)) h
-    by false e = may_plainly (told n)
-
-pub with_same : (told : List ℕ → FileFacts) (file : List ℕ) (content : Content) → with_file told file content file ≡ content
-with_same told file content = ap (λ (b : Bool). cond b content (plainly (told file))) ((bytes_eq-Decides file file).1 refl)
 
 -- ---- forms
 
@@ -86,17 +58,18 @@ leaves (Exec settings file) before after e = tt
 leaves (Dis file) before after e = e
 leaves (Gen n) before after e = e
 leaves (Make m name file) before after e = e
+leaves (Link name files) before after e = e
 
 -- ---- a refused file
 
-module _ {X : Type 0} (form : Form X) (reads : List ℕ → Reading) (c : Command) (file : List ℕ) (before after : Outside) (status : ℕ)
-    (is_due : (files : List ℕ → Content) (why : End) → formed form (files file) ≡ Err why → IsDue reads c files before.input.told (refused file before.input.told why)) where
+module _ {X : Type 0} (form : Form X) (reads : List ℕ → Reading) (c : Command) (file : List ℕ) (one : files_of c ≡ file ∷ []) (before after : Outside) (status : ℕ)
+    (is_due : (content : Content) (why : End) → formed form content ≡ Err why → IsDue reads c (content ∷ []) before.input.told (refused file before.input.told why)) where
   serves : (content : Content) (why : End) → MayBe (before.files.told file) content → formed form content ≡ Err why → (Claim : Due → Type 0) → Claim (refused file before.input.told why) → Serves reads c before Claim
   serves content why may e Claim h = record {
-    files = with_file before.files.told file content;
-    may = may_with before.files.told file content may;
+    contents = content ∷ [];
+    may = subst (λ names. MayEachBe before.files.told names (content ∷ [])) (sym one) (may, tt);
     due = refused file before.input.told why;
-    is = is_due (with_file before.files.told file content) why (ap (formed form) (with_same before.files.told file content) ∙ e);
+    is = is_due content why e;
     claim = h;
   }
 

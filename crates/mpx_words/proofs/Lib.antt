@@ -4,6 +4,7 @@ pub mod Formed
 pub mod Fronts
 pub mod Hex
 pub mod Images
+pub mod Linking
 pub mod Listings
 pub mod Meanings
 pub mod OptionWords

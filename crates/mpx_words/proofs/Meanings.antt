@@ -7,10 +7,11 @@ use Rattle.std.proofs.lemmas.Slice.Eq.{bytes_eq-Decides}
 use Rattle.mpx_words.specs.declared.options.Settings.{Settings}
 use Rattle.mpx_words.specs.declared.making.Making.{Making}
 use Rattle.mpx_words.specs.declared.making.Making.TheVariants.{Migrate, Assemble}
-use Rattle.mpx_words.specs.Commands.{Command, Run, Exec, Dis, Gen, Make, Means, MeanNothing, Fits}
+use Rattle.mpx_words.specs.Commands.{Command, Run, Exec, Dis, Gen, Make, Link, Means, MeanNothing, Fits}
+use Rattle.mpx_words.specs.Linking.{AreShort}
 use Rattle.mpx_words.specs.Makings.{word_of}
 use Rattle.mpx_words.specs.Options.{number_of}
-use Rattle.mpx_words.specs.Words.{is_file_word, is_source_word, is_assembly_word}
+use Rattle.mpx_words.specs.Words.{is_file_word, is_source_word, is_assembly_word, is_object_word, are_objects}
 use Rattle.mpx_words.proofs.OptionWords.{exec_only, exec_few}
 
 -- the first letter of the first word
@@ -32,12 +33,13 @@ data Kind : Type 0 where
   Lists : Kind
   Generates : Kind
   Makes : Making → Kind
+  Links : Kind
 
 -- the kind of a first letter
 abbrev kind_at : ℕ → Kind
 kind_at n =
     if nat_eq n 114 then Runs else (if nat_eq n 101 then Executes else (if nat_eq n 100 then Lists else (if nat_eq n 103 then Generates
-    else (if nat_eq n 109 then Makes Migrate else Makes Assemble))))
+    else (if nat_eq n 109 then Makes Migrate else (if nat_eq n 97 then Makes Assemble else Links)))))
 
 -- what a command of a kind has besides
 abbrev Rest : Kind → Type 0
@@ -46,6 +48,7 @@ Rest Executes = Settings × List ℕ
 Rest Lists = List ℕ
 Rest Generates = ℕ
 Rest (Makes m) = List ℕ × List ℕ
+Rest Links = List ℕ × List (List ℕ)
 
 abbrev command : (k : Kind) → Rest k → Command
 command Runs file = Run file
@@ -53,6 +56,7 @@ command Executes r = Exec r.0 r.1
 command Lists file = Dis file
 command Generates n = Gen n
 command (Makes m) r = Make m r.0 r.1
+command Links r = Link r.0 r.1
 
 -- a command as its kind and the rest
 record View (k : Kind) (c : Command) : Type 0 where
@@ -69,6 +73,7 @@ view words (Dis file) h = view_of words 100 (Dis file) (ap first h.0) (record { 
 view words (Gen n) h = view_of words 103 (Gen n) (ap first h.1) (record { rest = n; is = refl })
 view words (Make Migrate name file) h = view_of words 109 (Make Migrate name file) (ap first h.0) (record { rest = (name, file); is = refl })
 view words (Make Assemble name file) h = view_of words 97 (Make Assemble name file) (ap first h.0) (record { rest = (name, file); is = refl })
+view words (Link name files) h = view_of words 108 (Link name files) (ap first h.0) (record { rest = (name, files); is = refl })
 
 -- two of a kind are the same
 same_rest : (words : List (List ℕ)) (k : Kind) (r s : Rest k) → Means words (command k r) → Means words (command k s) → r ≡ s
@@ -78,6 +83,11 @@ same_rest words Lists r s h k = let both : codes "dis" ∷ r ∷ [] ≡ codes "d
 same_rest words Generates r s h k = gen_same words r s h k
 same_rest words (Makes m) r s h k =
     let both : word_of m ∷ codes "--out" ∷ r.0 ∷ r.1 ∷ [] ≡ word_of m ∷ codes "--out" ∷ s.0 ∷ s.1 ∷ [] = sym h.0 ∙ k.0 in
+    let names : r.0 ≡ s.0 = cc in
+    let files : r.1 ≡ s.1 = cc in
+    λ i. (names i, files i)
+same_rest words Links r s h k =
+    let both : codes "link" ∷ codes "--out" ∷ r.0 ∷ r.1 ≡ codes "link" ∷ codes "--out" ∷ s.0 ∷ s.1 = sym h.0 ∙ k.0 in
     let names : r.0 ≡ s.0 = cc in
     let files : r.1 ≡ s.1 = cc in
     λ i. (names i, files i)
@@ -96,17 +106,23 @@ two_words f [] a b n e h = absurd (omega (arith, n))
 two_words f (x ∷ []) a b n e h = absurd (omega (arith, n))
 two_words f (x ∷ y ∷ z ∷ xs) a b n e h = absurd (omega (arith, n))
 
+pub mapped_length : {X : Type 0} (f : X → List ℕ) (xs : List X) → length (map f xs) ≡ length xs
+mapped_length f [] = refl
+mapped_length f (x ∷ xs) = let e : length (map f xs) ≡ length xs = mapped_length f xs in omega (arith, e)
+
 pub apart_words : (a b : List ℕ) → bytes_eq a b ≡ false → a ≡ b → ⊥
 apart_words a b e same = let equal : bytes_eq a b ≡ true = (bytes_eq-Decides a b).1 same in cc
 
 -- words that mean no command of any kind
 pub by_command : (words : List (List ℕ)) → ((settings : Settings) (file : List ℕ) → Means words (Exec settings file) → ⊥) → ((file : List ℕ) → Means words (Run file) → ⊥) → ((file : List ℕ) → Means words (Dis file) → ⊥)
-    → ((n : ℕ) → Means words (Gen n) → ⊥) → ((m : Making) (name file : List ℕ) → Means words (Make m name file) → ⊥) → MeanNothing words
-by_command words exec run dis gen make (Run file) h = run file h
-by_command words exec run dis gen make (Exec settings file) h = exec settings file h
-by_command words exec run dis gen make (Dis file) h = dis file h
-by_command words exec run dis gen make (Gen n) h = gen n h
-by_command words exec run dis gen make (Make m name file) h = make m name file h
+    → ((n : ℕ) → Means words (Gen n) → ⊥) → ((m : Making) (name file : List ℕ) → Means words (Make m name file) → ⊥)
+    → ((name : List ℕ) (files : List (List ℕ)) → Means words (Link name files) → ⊥) → MeanNothing words
+by_command words exec run dis gen make link (Run file) h = run file h
+by_command words exec run dis gen make link (Exec settings file) h = exec settings file h
+by_command words exec run dis gen make link (Dis file) h = dis file h
+by_command words exec run dis gen make link (Gen n) h = gen n h
+by_command words exec run dis gen make link (Make m name file) h = make m name file h
+by_command words exec run dis gen make link (Link name files) h = link name files h
 
 -- ---- limits
 
@@ -131,6 +147,17 @@ source_short word h = short word (left (is_file_word word) _ h)
 assembly_short : (word : List ℕ) → IsTrue (is_assembly_word word) → length word ≤ 255
 assembly_short word h = short word (left (is_file_word word) _ h)
 
+object_short : (word : List ℕ) → is_object_word word ≡ true → length word ≤ 255
+object_short word h = short word (left (is_file_word word) _ h)
+
+second : (a b : Bool) → (a && b) ≡ true → b ≡ true
+second true b e = e
+second false b e = absurd cc
+
+all_short : (words : List (List ℕ)) → are_objects words ≡ true → AreShort words
+all_short [] h = tt
+all_short (word ∷ words) h = (object_short word (left (is_object_word word) _ h), all_short words (second (is_object_word word) _ h))
+
 pub fits : (words : List (List ℕ)) (c : Command) → Means words c → Fits c
 fits words (Run file) h = source_short file h.1
 fits words (Exec settings file) h = (short file h.named, exec_few words settings file h)
@@ -138,3 +165,4 @@ fits words (Dis file) h = short file h.1
 fits words (Gen n) h = h.4
 fits words (Make Migrate name file) h = (short name h.1, short file h.2)
 fits words (Make Assemble name file) h = (short name h.1, assembly_short file h.2)
+fits words (Link name files) h = (h.4, all_short files h.2)

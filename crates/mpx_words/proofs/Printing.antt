@@ -1,11 +1,12 @@
 -- Texts on standard output, and files that are written.
-use Rattle.std.proofs.Common.{◌≡◌, ◌∙◌, ℕ, Option, None, Some, Ok, Err, List, refl, sym, ap, subst, arith}
+use Rattle.std.proofs.Common.{◌≡◌, ◌∙◌, ℕ, Option, None, Some, Ok, Err, List, [], ◌∷◌, refl, sym, ap, subst, arith}
+use Rattle.std.specs.Prelude.{Result}
 use Rattle.mx_base.specs.Outside.{Untold, HoldsWhereTold, HasRisen}
 use Rattle.obj_file.specs.Machine.{Reading}
 use Rattle.mpx_words.specs.declared.end.End.TheVariants.{WriteFault}
 use Rattle.mpx_words.specs.Answers.{Whole, OutputUnwritten, FileUnwritten, Answers, Serves, IsDone, IsCut, IsPlain, IsUnwritten, KeepsFiles, KeepsOthers, Reports}
 use Rattle.mx_gen.specs.Program.{program_of}
-use Rattle.mpx_words.specs.Commands.{Command, Gen, Dis, Make}
+use Rattle.mpx_words.specs.Commands.{Command, Gen, Dis, Make, files_of}
 use Rattle.std.specs.declared.vec.Vec.{Vec}
 use Rattle.std.specs.Global.{Global}
 use Rattle.mpx_words.specs.declared.end.End.{End}
@@ -13,11 +14,11 @@ use Rattle.mpx_words.specs.declared.making.Making.{Making}
 use Rattle.mpx_words.specs.Listing.{object_codes, image_codes, IsListing}
 use Rattle.mpx_words.specs.Due.{Due, IsDue, IsDueOf, refused, printed, wrote}
 use Rattle.mpx_words.specs.Ends.{line_of}
-use Rattle.mpx_words.specs.Files.{Content, MayHold, Form, formed, by_form, Yields, IsText}
+use Rattle.mpx_words.specs.Files.{Content, MayEachBe, MayHold, Form, formed, by_form, Yields, IsText}
 use Rattle.mpx_words.specs.Makings.{made_by}
 use Rattle.mpx_words.specs.Outside.{Stream, Outside}
 use Rattle.mpx_words.specs.Sinks.{Prints, All, Part}
-use Rattle.mpx_words.proofs.Choices.{leaves, plainly, may_plainly, with_file, may_with, with_same, formed_as, kept}
+use Rattle.mpx_words.proofs.Choices.{leaves, formed_as, kept}
 
 plain_zero : IsPlain 0
 plain_zero = record { not_refused = λ e. omega (arith, e); not_unread = λ e. omega (arith, e); not_unwritten = λ e. omega (arith, e) }
@@ -50,15 +51,15 @@ module _ (reads : List ℕ → Reading) (c : Command) (before after : Outside) (
   }
 
 -- a claim on what is due of a file by its form
-module _ {X : Type 0} (form : Form X) (reads : List ℕ → Reading) (c : Command) (file : List ℕ) (before : Outside) (due : Due) (bytes : List ℕ) (x : X)
+module _ {X : Type 0} (form : Form X) (reads : List ℕ → Reading) (c : Command) (file : List ℕ) (one : files_of c ≡ file ∷ []) (before : Outside) (due : Due) (bytes : List ℕ) (x : X)
     (holds : MayHold (before.files.told file) bytes) (is : form bytes ≡ Ok x)
-    (is_due : (files : List ℕ → Content) → formed form (files file) ≡ Ok x → IsDue reads c files before.input.told due) where
+    (is_due : formed form (Some bytes) ≡ Ok x → IsDue reads c (Some bytes ∷ []) before.input.told due) where
   pub serves_form : (Claim : Due → Type 0) → Claim due → Serves reads c before Claim
   serves_form Claim h = record {
-    files = with_file before.files.told file (Some bytes);
-    may = may_with before.files.told file (Some bytes) holds.may;
+    contents = Some bytes ∷ [];
+    may = subst (λ names. MayEachBe before.files.told names (Some bytes ∷ [])) (sym one) (holds.may, tt);
     due = due;
-    is = is_due (with_file before.files.told file (Some bytes)) (ap (formed form) (with_same before.files.told file (Some bytes)) ∙ formed_as form bytes (Ok x) holds.few is);
+    is = is_due (formed_as form bytes (Ok x) holds.few is);
     claim = h;
   }
 
@@ -105,23 +106,23 @@ as_text {status = status} {out = out} {out' = out'} {err = err} {err' = err'} e 
 
 pub gen_serves : (reads : List ℕ → Reading) (n : ℕ) (before : Outside) (Claim : Due → Type 0) → Claim (printed before.input.told (program_of n)) → Serves reads (Gen n) before Claim
 gen_serves reads n before Claim h = record {
-  files = λ k. plainly (before.files.told k);
-  may = λ k. may_plainly (before.files.told k);
+  contents = [];
+  may = tt;
   due = printed before.input.told (program_of n);
   is = refl;
   claim = h;
 }
 
-pub dis_refused : (reads : List ℕ → Reading) (file : List ℕ) (left : Option (List ℕ)) (files : List ℕ → Content) (why : End) → formed (by_form object_codes image_codes) (files file) ≡ Err why → IsDue reads (Dis file) files left (refused file left why)
-dis_refused reads file left files why e = subst (λ r. IsDueOf file left (λ parts due. (text : List ℕ) × IsListing parts text × (due ≡ printed left text)) r (refused file left why)) (sym e) refl
+pub dis_refused : (reads : List ℕ → Reading) (file : List ℕ) (left : Option (List ℕ)) (content : Content) (why : End) → formed (by_form object_codes image_codes) content ≡ Err why → IsDue reads (Dis file) (content ∷ []) left (refused file left why)
+dis_refused reads file left content why e = subst (λ r. IsDueOf file left (λ parts due. (text : List ℕ) × IsListing parts text × (due ≡ printed left text)) r (refused file left why)) (sym e) refl
 
 pub dis_serves : (reads : List ℕ → Reading) (file : List ℕ) (before : Outside) (v : Vec ℕ Global) → Yields (by_form object_codes image_codes) IsListing (before.files.told file) (Ok v) → (Claim : Due → Type 0) → Claim (printed before.input.told v.items) → Serves reads (Dis file) before Claim
-dis_serves reads file before v y = serves_form (by_form object_codes image_codes) reads (Dis file) file before (printed before.input.told v.items) y.0 y.2 y.1 y.3
-    (λ files e. subst (λ r. IsDueOf file before.input.told (λ parts due. (text : List ℕ) × IsListing parts text × (due ≡ printed before.input.told text)) r (printed before.input.told v.items)) (sym e) (v.items, y.4, refl))
+dis_serves reads file before v y = serves_form (by_form object_codes image_codes) reads (Dis file) file refl before (printed before.input.told v.items) y.0 y.2 y.1 y.3
+    (λ e. subst (λ r. IsDueOf file before.input.told (λ parts due. (text : List ℕ) × IsListing parts text × (due ≡ printed before.input.told text)) r (printed before.input.told v.items)) (sym e) (v.items, y.4, refl))
 
-pub make_refused : (reads : List ℕ → Reading) (m : Making) (name file : List ℕ) (left : Option (List ℕ)) (files : List ℕ → Content) (why : End) → formed (made_by m) (files file) ≡ Err why → IsDue reads (Make m name file) files left (refused file left why)
-make_refused reads m name file left files why e = subst (λ r. IsDueOf file left (λ bytes due. due ≡ wrote left name bytes) r (refused file left why)) (sym e) refl
+pub make_refused : (reads : List ℕ → Reading) (m : Making) (name file : List ℕ) (left : Option (List ℕ)) (content : Content) (why : End) → formed (made_by m) content ≡ Err why → IsDue reads (Make m name file) (content ∷ []) left (refused file left why)
+make_refused reads m name file left content why e = subst (λ r. IsDueOf file left (λ bytes due. due ≡ wrote left name bytes) r (refused file left why)) (sym e) refl
 
 pub make_serves : (reads : List ℕ → Reading) (m : Making) (name file : List ℕ) (before : Outside) (v : Vec ℕ Global) → Yields (made_by m) IsText (before.files.told file) (Ok v) → (Claim : Due → Type 0) → Claim (wrote before.input.told name v.items) → Serves reads (Make m name file) before Claim
-make_serves reads m name file before v y = serves_form (made_by m) reads (Make m name file) file before (wrote before.input.told name v.items) y.0 y.2 y.1 y.3
-    (λ files e. subst (λ r. IsDueOf file before.input.told (λ bytes due. due ≡ wrote before.input.told name bytes) r (wrote before.input.told name v.items)) (sym e) (ap (wrote before.input.told name) y.4))
+make_serves reads m name file before v y = serves_form (made_by m) reads (Make m name file) file refl before (wrote before.input.told name v.items) y.0 y.2 y.1 y.3
+    (λ e. subst (λ r. IsDueOf file before.input.told (λ bytes due. due ≡ wrote before.input.told name bytes) r (wrote before.input.told name v.items)) (sym e) (ap (wrote before.input.told name) y.4))

@@ -1,5 +1,5 @@
 -- From what was read of a source to the answer of `run`.
-use Rattle.std.proofs.Common.{◌≡◌, ◌∙◌, ℕ, ◌≤◌, Option, None, Some, Ok, List, [], length, take, refl, ap, sym, subst, arith}
+use Rattle.std.proofs.Common.{◌≡◌, ◌∙◌, ℕ, ◌≤◌, Option, None, Some, Ok, List, [], ◌∷◌, length, take, refl, ap, sym, subst, arith}
 use Rattle.std.proofs.lemmas.List.{take_all, length-take}
 use Rattle.std.specs.declared.vec.Vec.{Vec}
 use Rattle.std.specs.Global.{Global}
@@ -19,7 +19,6 @@ use Rattle.mpx_words.specs.Ends.{line_of, status_of}
 use Rattle.mpx_words.specs.Files.{Content, MayBe}
 use Rattle.mpx_words.specs.Outside.{Stream, Outside}
 use Rattle.mpx_words.specs.Sources.{IsFrontOf, ReadsFront}
-use Rattle.mpx_words.proofs.Choices.{with_file, may_with, with_same}
 use Rattle.mpx_words.proofs.Puts.{adds_nothing}
 
 -- ---- a text
@@ -108,10 +107,10 @@ plain_run (Some bytes) out why (IsNoProgram none o e) = subst (λ (w : End). IsP
 module _ (reads : List ℕ → Reading) (file : List ℕ) (before after : Outside) (status : ℕ) (files : KeepsFiles before after) (writes : after.files.writes ≡ before.files.writes) (input : after.input ≡ before.input) where
   serves : (content : Content) (out : List ℕ) (why : End) → MayBe (before.files.told file) content → IsRunOf content out why → (Claim : Due → Type 0) → Claim (reported file before.input.told out why) → Serves reads (Run file) before Claim
   serves content out why may is Claim h = record {
-    files = with_file before.files.told file content;
-    may = may_with before.files.told file content may;
+    contents = content ∷ [];
+    may = (may, tt);
     due = reported file before.input.told out why;
-    is = (out, why, subst (λ (x : Content). IsRunOf x out why) (sym (with_same before.files.told file content)) is, refl);
+    is = (out, why, is, refl);
     claim = h;
   }
 

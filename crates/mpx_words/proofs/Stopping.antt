@@ -1,5 +1,5 @@
 -- How `exec` answers, by what the run of the image left.
-use Rattle.std.proofs.Common.{◌≡◌, ℕ, Option, None, Some, Ok, Err, List, refl, sym, ap, subst, arith}
+use Rattle.std.proofs.Common.{◌≡◌, ℕ, Option, None, Some, Ok, Err, List, [], ◌∷◌, refl, sym, ap, subst, arith}
 use Rattle.fault_text.specs.Explain as explain
 use Rattle.mx_base.specs.declared.stops.Stop.{Stop}
 use Rattle.mx_base.specs.declared.stops.Stop.TheVariants as stop
@@ -99,8 +99,8 @@ comes e stop.WriteFault held held' left' own h = absurd own
 module _ (reads : List ℕ → Reading) (s : Settings) (file : List ℕ) (v : Image) (before after : Outside) (status : ℕ)
     (loads : Loads image_form (before.files.told file) (Ok v)) (files : KeepsFiles before after) (unread : after.files.reads ≡ before.files.reads) (unwritten : after.files.writes ≡ before.files.writes) where
   serves : (due : Due) → IsDueOfRun reads s v before.input.told due → (Claim : Due → Type 0) → Claim due → Serves reads (Exec s file) before Claim
-  serves due is = serves_form image_form reads (Exec s file) file before due loads.0 v loads.1 loads.2
-      (λ known e. subst (λ r. IsDueOf file before.input.told (λ (w : Image). IsDueOfRun reads s w before.input.told) r due) (sym e) is)
+  serves due is = serves_form image_form reads (Exec s file) file refl before due loads.0 v loads.1 loads.2
+      (λ e. subst (λ r. IsDueOf file before.input.told (λ (w : Image). IsDueOfRun reads s w before.input.told) r due) (sym e) is)
 
   -- by what is told of the input
   by_input : (Claim : Due → Type 0) (why : Stop) (lack : Option (ℕ × ℕ)) → ((input : List ℕ) → before.input.told ≡ Some input → Claim (due_of_run reads s v input)) → Claim (due_unseen v why lack) → Serves reads (Exec s file) before Claim
@@ -167,8 +167,8 @@ module _ (reads : List ℕ → Reading) (s : Settings) (file : List ℕ) (v : Im
     reports = reports;
   }
 
-pub exec_refused : (reads : List ℕ → Reading) (s : Settings) (file : List ℕ) (left : Option (List ℕ)) (files : List ℕ → Content) (why : End) → formed image_form (files file) ≡ Err why → IsDue reads (Exec s file) files left (refused file left why)
-exec_refused reads s file left files why e = subst (λ r. IsDueOf file left (λ (v : Image). IsDueOfRun reads s v left) r (refused file left why)) (sym e) refl
+pub exec_refused : (reads : List ℕ → Reading) (s : Settings) (file : List ℕ) (left : Option (List ℕ)) (content : Content) (why : End) → formed image_form content ≡ Err why → IsDue reads (Exec s file) (content ∷ []) left (refused file left why)
+exec_refused reads s file left content why e = subst (λ r. IsDueOf file left (λ (v : Image). IsDueOfRun reads s v left) r (refused file left why)) (sym e) refl
 
 -- a report of the same line and status
 pub report_of : (a b : List ℕ) (x y status : ℕ) (before after : Stream) → a ≡ b → x ≡ y → Reports a x status before after → Reports b y status before after

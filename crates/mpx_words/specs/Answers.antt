@@ -5,10 +5,10 @@ use Rattle.mx_base.specs.declared.stops.Stop.TheVariants.{NoFrames}
 use Rattle.mx_base.specs.Outside.{Untold, HoldsWhereTold, KeepsWhereTold, Adds, AddsFront, HasRisen}
 use Rattle.obj_file.specs.Machine.{Reading}
 use Rattle.mpx_words.specs.declared.end.End.TheVariants.{WordsRefused, ReadFault, WriteFault, NoMemory}
-use Rattle.mpx_words.specs.Commands.{Command, Exec}
+use Rattle.mpx_words.specs.Commands.{Command, Exec, files_of}
 use Rattle.mpx_words.specs.Due.{Due, Flow, Written, IsDue}
 use Rattle.mpx_words.specs.Ends.{line_of}
-use Rattle.mpx_words.specs.Files.{Content, MayBe}
+use Rattle.mpx_words.specs.Files.{Content, MayEachBe}
 use Rattle.mpx_words.specs.Outside.{Stream, Outside}
 
 -- ---- how the work ended
@@ -134,12 +134,12 @@ pub record IsUnwritten (due : Due) (before after : Outside) : Type 0 where
   pub lost : after.files.told written.name ≡ Untold
   pub others : KeepsOthers written.name before after
 
--- a claim on what is due of a command by files that there may be
+-- a claim on what is due of a command by what the files that it reads may be
 pub record Serves (reads : List ℕ → Reading) (c : Command) (before : Outside) (Claim : Due → Type 0) : Type 0 where
-  pub files : List ℕ → Content
-  pub may : (n : List ℕ) → MayBe (before.files.told n) (files n)
+  pub contents : List Content
+  pub may : MayEachBe before.files.told (files_of c) contents
   pub due : Due
-  pub is : IsDue reads c files before.input.told due
+  pub is : IsDue reads c contents before.input.told due
   pub claim : Claim due
 
 -- what the work of a command did that ended so

@@ -1,5 +1,5 @@
--- What is due of a command, by the files that there are and the input that is told.
-use Rattle.std.specs.Prelude.{◌≡◌, ℕ, Option, None, Some, Result, Ok, Err, List, []}
+-- What is due of a command, by the contents of its files and the input that is told.
+use Rattle.std.specs.Prelude.{◌≡◌, ℕ, Option, None, Some, Result, Ok, Err, List, [], ◌∷◌}
 use Rattle.c_reader.specs.EarlyForm.{IsEarly}
 use Rattle.c_reader.specs.EarlyMeaning.{EarlyEnd, Returns, Leaves, early_run}
 use Rattle.c_reader.specs.declared.early.Act.{Act}
@@ -8,13 +8,15 @@ use Rattle.mx_base.specs.declared.stops.Stop.{Stop}
 use Rattle.mx_gen.specs.Program.{program_of}
 use Rattle.mx_run.specs.Events.{out_of}
 use Rattle.obj_file.specs.declared.image.Image.{Image}
+use Rattle.obj_file.specs.Image.{image_spelling}
 use Rattle.obj_file.specs.Machine.{Reading}
 use Rattle.mpx_words.specs.declared.end.End.{End}
 use Rattle.mpx_words.specs.declared.end.End.TheVariants.{Exit, Bounds, Missing, Unbuilt}
 use Rattle.mpx_words.specs.declared.options.Settings.{Settings}
-use Rattle.mpx_words.specs.Commands.{Command, Run, Exec, Dis, Gen, Make}
+use Rattle.mpx_words.specs.Commands.{Command, Run, Exec, Dis, Gen, Make, Link}
 use Rattle.mpx_words.specs.Ends.{status_of, line_of}
 use Rattle.mpx_words.specs.Files.{Content, formed, by_form, image_form}
+use Rattle.mpx_words.specs.Linking.{Refusal, OfFile, OfLink, image_of_files, line_of_fault}
 use Rattle.mpx_words.specs.Listing.{object_codes, image_codes, IsListing}
 use Rattle.mpx_words.specs.Makings.{made_by}
 use Rattle.mpx_words.specs.Running.{run_by, lack_by, stop_of, rest_of}
@@ -115,13 +117,33 @@ abbrev pub IsDueOf : {X : Type 0} → List ℕ → Option (List ℕ) → (X → 
 IsDueOf file left IsDueOfIt (Ok x) due = IsDueOfIt x due
 IsDueOf file left IsDueOfIt (Err end) due = due ≡ refused file left end
 
--- what is due of a command, by a reader of instructions, the files that there are, and what is told of the input
-abbrev pub IsDue : (List ℕ → Reading) → Command → (List ℕ → Content) → Option (List ℕ) → Due → Type 0
-IsDue reads (Run file) files left due =
-    (out : List ℕ) × (end : End) × IsRunOf (files file) out end × (due ≡ reported file left out end)
-IsDue reads (Exec s file) files left due = IsDueOf file left (λ v. IsDueOfRun reads s v left) (formed image_form (files file)) due
-IsDue reads (Dis file) files left due =
-    IsDueOf file left (λ parts due. (text : List ℕ) × IsListing parts text × (due ≡ printed left text))
-    (formed (by_form object_codes image_codes) (files file)) due
-IsDue reads (Gen n) files left due = due ≡ printed left (program_of n)
-IsDue reads (Make m name file) files left due = IsDueOf file left (λ bytes due. due ≡ wrote left name bytes) (formed (made_by m) (files file)) due
+-- what is due of a link: the image is written, or a file is refused, or there is the line of the first fault
+abbrev pub due_of_link : (name : List ℕ) → Option (List ℕ) → Result Image Refusal → Due
+due_of_link name left (Ok v) = wrote left name (image_spelling v)
+due_of_link name left (Err (OfFile file end)) = refused file left end
+due_of_link name left (Err (OfLink fault)) = record {
+  flow = Some (record { out = []; left = left });
+  line = Some (line_of_fault fault);
+  status = 1;
+  written = None;
+  lack = None;
+}
+
+-- what is due of the content of a command's one file
+abbrev pub OfOne : (Content → Due → Type 0) → List Content → Due → Type 0
+OfOne IsDueOfIt (content ∷ []) due = IsDueOfIt content due
+OfOne IsDueOfIt contents due = ⊥
+
+-- what is due of a command, by a reader of instructions, the contents of the files that it reads, and what is told of the input
+abbrev pub IsDue : (List ℕ → Reading) → Command → List Content → Option (List ℕ) → Due → Type 0
+IsDue reads (Run file) contents left due =
+    OfOne (λ content due. (out : List ℕ) × (end : End) × IsRunOf content out end × (due ≡ reported file left out end)) contents due
+IsDue reads (Exec s file) contents left due =
+    OfOne (λ content due. IsDueOf file left (λ v. IsDueOfRun reads s v left) (formed image_form content) due) contents due
+IsDue reads (Dis file) contents left due =
+    OfOne (λ content due. IsDueOf file left (λ parts due. (text : List ℕ) × IsListing parts text × (due ≡ printed left text))
+    (formed (by_form object_codes image_codes) content) due) contents due
+IsDue reads (Gen n) contents left due = due ≡ printed left (program_of n)
+IsDue reads (Make m name file) contents left due =
+    OfOne (λ content due. IsDueOf file left (λ bytes due. due ≡ wrote left name bytes) (formed (made_by m) content) due) contents due
+IsDue reads (Link name files) contents left due = due ≡ due_of_link name left (image_of_files files contents)

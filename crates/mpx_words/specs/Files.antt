@@ -1,5 +1,5 @@
 -- What a file is read as.
-use Rattle.std.specs.Prelude.{◌≡◌, ℕ, ◌<◌, ◌≤◌, nat_eq, nat_lt, Bool, ◌||◌, if◌then◌else◌, Option, None, Some, Result, Ok, Err, List, codes, length}
+use Rattle.std.specs.Prelude.{◌≡◌, ℕ, ◌<◌, ◌≤◌, nat_eq, nat_lt, Bool, ◌||◌, if◌then◌else◌, Option, None, Some, Result, Ok, Err, List, [], ◌∷◌, codes, length}
 use Rattle.std.specs.List.{starts_with}
 use Rattle.std.specs.declared.vec.Vec.{Vec}
 use Rattle.std.specs.Global.{Global}
@@ -23,6 +23,13 @@ abbrev pub MayBe : FileFacts → Content → Type 0
 MayBe Untold content = Unit {0}
 MayBe Absent content = content ≡ None
 MayBe (Holds bytes) content = content ≡ Some bytes
+
+-- what files of these names may be, one after another
+abbrev pub MayEachBe : (List ℕ → FileFacts) → List (List ℕ) → List Content → Type 0
+MayEachBe told [] [] = Unit {0}
+MayEachBe told (name ∷ names) (content ∷ contents) = MayBe (told name) content × MayEachBe told names contents
+MayEachBe told [] (content ∷ contents) = ⊥
+MayEachBe told (name ∷ names) [] = ⊥
 
 -- the most bytes that a file may have
 abbrev pub file_limit : ℕ

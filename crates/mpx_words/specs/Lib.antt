@@ -4,6 +4,7 @@ pub mod Due
 pub mod Early
 pub mod Ends
 pub mod Files
+pub mod Linking
 pub mod Listing
 pub mod Makings
 pub mod Options

@@ -1,10 +1,10 @@
 //! Commands, and the words that mean them.
 ghost use Rattle.std.specs.Prelude.{◌≡◌, ◌≤◌, ℕ, List, map, string_bytes, length, MatchOption, ◌∷◌, [], codes};
-ghost use Rattle.mpx_words.specs.Commands.{Run, Dis, Gen, Make, Means, MeanNothing, Fits, command_of};
+ghost use Rattle.mpx_words.specs.Commands.{Run, Dis, Gen, Make, Link, Means, MeanNothing, Fits, command_of};
 
 use crate::making::{Making, making_of};
 use crate::options::{Settings, exec_words, number};
-use crate::word::{is_file, is_source};
+use crate::word::{are_objects, is_file, is_source};
 
 /// A command with its options and files.
 #[derive(Clone, Copy, Debug, PartialEq, Eq)]
@@ -19,6 +19,8 @@ pub enum Command<'a> {
     Gen(u32),
     /// Writes to a file, the first, what is made of the other.
     Make(Making, &'a str, &'a str),
+    /// Writes to a file the image of the objects in others.
+    Link(&'a str, &'a [String]),
 }
 
 /// The word behind a command's name, if the words are these two.
@@ -116,6 +118,22 @@ fn make_words(words: &[String]) -> Option<(Making, &str, &str)>
     }
 }
 
+/// The file that is written, and those that are read.
+fn link_words(words: &[String]) -> Option<(&str, &[String])>
+    ensures { MatchOption result ((name : List ℕ) (files : List (List ℕ)) → Means (map string_bytes words.now) (Link name files) → ⊥) (λ r. Means (map string_bytes words.now) (Link r.0.now (map string_bytes r.1.now))) }
+{
+    let writing = writing_words(words)?;
+    if writing.command != "link" || !is_file(writing.to) {
+        return None;
+    }
+    let count = writing.files.len();
+    if 1 <= count && count < 0x1_0000_0000 && are_objects(writing.files) {
+        Some((writing.to, writing.files))
+    } else {
+        None
+    }
+}
+
 /// The command that the words mean, if they mean one.
 pub fn command_in(words: &[String]) -> Option<Command<'_>>
     ensures means { MatchOption result (MeanNothing (map string_bytes words.now)) (λ c. Means (map string_bytes words.now) (command_of c)) }
@@ -133,8 +151,11 @@ pub fn command_in(words: &[String]) -> Option<Command<'_>>
     if let Some(n) = gen_words(words) {
         return Some(Command::Gen(n));
     }
-    match make_words(words) {
-        Some((making, name, file)) => Some(Command::Make(making, name, file)),
+    if let Some((making, name, file)) = make_words(words) {
+        return Some(Command::Make(making, name, file));
+    }
+    match link_words(words) {
+        Some((name, files)) => Some(Command::Link(name, files)),
         None => None,
     }
 }

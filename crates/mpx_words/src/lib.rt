@@ -9,6 +9,7 @@ mod exec;
 mod generate;
 mod laws;
 mod line;
+mod link;
 mod load;
 mod making;
 mod options;

@@ -12,6 +12,7 @@ use crate::early::run_source;
 use crate::end::End;
 use crate::exec::run_exec;
 use crate::generate::run_gen;
+use crate::link::run_link;
 use crate::making::run_making;
 use crate::report::report;
 use mx_base::{Files, Sink, Source};
@@ -24,6 +25,7 @@ use std::alloc::Global;
 /// - `dis FILE` puts the text of the code of the object or image FILE to `out`.
 /// - `gen N` puts the generated program of size N to `out`.
 /// - `asm --out NAME FILE` writes the object of the text of assembly FILE to the file NAME.
+/// - `link --out NAME FILE..` writes the image of the objects in the files FILE to the file NAME.
 /// - `migrate --out NAME FILE` writes the newest form of the object or image FILE to the file NAME.
 ///
 /// The last act is one line on `err`, which all but `run` and `exec` put only where the status is not 0.
@@ -94,5 +96,6 @@ fn do_command<F: Files, I: Source, O: Sink, E: Sink>(
         Command::Dis(file) => run_dis(alloc, file, files, out, err),
         Command::Gen(n) => run_gen(alloc, n, out, err),
         Command::Make(making, name, file) => run_making(alloc, making, name, file, files, err),
+        Command::Link(name, names) => run_link(alloc, name, names, files, err),
     }
 }

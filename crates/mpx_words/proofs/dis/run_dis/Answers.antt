@@ -10,7 +10,7 @@ use Rattle.mpx_words.proofs.dis.run_dis.Goals as goal
 
 pub returns-in-Err : goal.returns-in-Err
 returns-in-Err g c = λ reads input.
-    refused_answers (by_form object_codes image_codes) reads _ _ _ _ _ (dis_refused reads _ _) _ c.in-Err.ensures.yields (same_counts (Vec ℕ Global) (List (List ℕ)) _ _ _ c.in-Err.ensures.counts)
+    refused_answers (by_form object_codes image_codes) reads _ _ refl _ _ _ (dis_refused reads _ _) _ c.in-Err.ensures.yields (same_counts (Vec ℕ Global) (List (List ℕ)) _ _ _ c.in-Err.ensures.counts)
     (record { files = c.in-Err.ensures.contents; writes = c.in-Err.ensures.write_faults; input = refl; out = refl }) c.report.ensures
 
 pub returns-in-Ok : goal.returns-in-Ok

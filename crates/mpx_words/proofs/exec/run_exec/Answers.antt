@@ -6,7 +6,7 @@ use Rattle.mpx_words.proofs.exec.run_exec.Goals as goal
 
 pub returns-in-Err : goal.returns-in-Err
 returns-in-Err g c = λ reads exact.
-    refused_answers image_form reads _ _ _ _ _ (exec_refused reads _ _ _) _ c.in-Err.ensures.loads c.in-Err.ensures.counts
+    refused_answers image_form reads _ _ refl _ _ _ (exec_refused reads _ _ _) _ c.in-Err.ensures.loads c.in-Err.ensures.counts
     (record { files = c.in-Err.ensures.contents; writes = c.in-Err.ensures.write_faults; input = refl; out = refl }) c.report.ensures
 
 pub returns-in-Err-run_image : goal.returns-in-Err-run_image

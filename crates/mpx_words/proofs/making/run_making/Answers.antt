@@ -10,7 +10,7 @@ use Rattle.mpx_words.proofs.making.run_making.Goals as goal
 
 pub returns-in-Err : goal.returns-in-Err
 returns-in-Err g c = λ reads input out.
-    refused_answers (made_by c.args.making) reads _ _ _ _ _ (make_refused reads c.args.making _ _ _) _ c.in-Err.ensures.yields (same_counts (Vec ℕ Global) (List ℕ) _ _ _ c.in-Err.ensures.counts)
+    refused_answers (made_by c.args.making) reads _ _ refl _ _ _ (make_refused reads c.args.making _ _ _) _ c.in-Err.ensures.yields (same_counts (Vec ℕ Global) (List ℕ) _ _ _ c.in-Err.ensures.counts)
     (record { files = c.in-Err.ensures.contents; writes = c.in-Err.ensures.write_faults; input = refl; out = refl }) c.report.ensures
 
 pub returns-in-Ok-write_all : goal.returns-in-Ok-write_all
