@@ -8,6 +8,8 @@ use Rattle.bounds_plan.specs.ElaborateExpressions.{expression}
 use Rattle.bounds_plan.specs.ElaborateInitialisers.{initialiser}
 use Rattle.bounds_plan.specs.ElaborateStatements.{past_counts, maybe}
 use Rattle.bounds_plan.specs.ElaborateFunctions.{Declared, declared_all, past_initialiser}
+use Rattle.bounds_plan.specs.ElaborateSource as elaborated
+use Rattle.steps_facts.specs.Seen.{reached_of}
 use Rattle.steps_structs.specs.Structs.{AreKnown}
 use Rattle.steps_known.specs.Functions.{AreSorted}
 use Rattle.steps_source.specs.declared.source.PlannedSource.{PlannedSource}
@@ -33,11 +35,19 @@ pub record IsGone (source : PlannedSource) (gone : Gone) : Type 0 where
 
 -- how far the declaration of a global goes
 abbrev pub behind_variable : Decl → Option Init → Around → Reached → Reached
-behind_variable d init around r = let here = past_counts expression d around r in past_initialiser (maybe (initialiser expression) init) around (declared_at around here) (past_declaration here)
+behind_variable d init around r = let here = past_counts expression d around r in
+    past_initialiser (maybe (initialiser expression) init) around (declared_at around here) (past_declaration here)
 
 -- the parameters of a function whose declarator stands here
 abbrev pub parameters_at_head : List Decl → Around → Reached → Declared
 parameters_at_head parameters around r = declared_all expression past_declaration parameters around (past_declaration r)
+
+-- the members of a struct, and the parameters of a function, whose declaration stands next in a source
+abbrev pub members_next : PlannedSource → Gone → List Decl → Declared
+members_next source gone members = declared_all expression elaborated.past_member members (around_at source gone) (reached_of gone.after)
+
+abbrev pub parameters_next : PlannedSource → Gone → List Decl → Declared
+parameters_next source gone parameters = parameters_at_head parameters (around_at source gone) (reached_of gone.after)
 
 abbrev pub signature_at : PlannedSource → FunctionHead → Signature
 signature_at source h = record { result = type_at (table_of source) h.result; parameters = map (type_at (table_of source)) h.parameters }

@@ -2,13 +2,11 @@
 
 ghost use Rattle.std.specs.Prelude.{◌≡◌, ◌++◌, map, take, drop, All, IfOk, slice_index_or};
 ghost use Rattle.c_types.specs.Types.{type_at, IsIn};
-ghost use Rattle.bounds_plan.specs.ElaborateStatements.{declarations as declarations_of};
-ghost use Rattle.bounds_plan.specs.ElaborateFunctions.{in_body, next_types, no_frame};
+ghost use Rattle.bounds_plan.specs.ElaborateFunctions.{no_frame};
 ghost use Rattle.c_accepted.specs.Planned.{stand_of, layout_frame};
-ghost use Rattle.steps_facts.specs.Seen.{reached_of};
 ghost use Rattle.steps_known.specs.Known.{around_of};
-ghost use Rattle.steps_items.specs.Around.{IsSource, IsGone, table_of, around_at, signature_at};
-ghost use Rattle.steps_items.specs.Bodies.{AreVariables, frame_at};
+ghost use Rattle.steps_items.specs.Around.{IsSource, IsGone, table_of};
+ghost use Rattle.steps_items.specs.Bodies.{AreVariables, around_inside};
 
 use crate::counts::declarations;
 use crate::gone::{FunctionHead, Gone};
@@ -110,7 +108,7 @@ pub fn known_inside<'a>(
     requires result { IsIn (table_of source.now) head.now.result }
     requires variables { AreVariables source.now gone.now head.now.parameters body.now variables.now }
     ensures table { result.table ≡ table_of source.now }
-    ensures around { around_of result ≡ in_body ((signature_at source.now head.now).parameters ++ next_types (around_at source.now gone.now) (reached_of gone.now.after) (declarations_of body.now)) (frame_at source.now gone.now).stands (signature_at source.now head.now).result (around_at source.now gone.now) }
+    ensures around { around_of result ≡ around_inside source.now gone.now head.now body.now }
 {
     let checked = source.checked;
     let plan = source.plan;

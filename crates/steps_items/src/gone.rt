@@ -3,11 +3,10 @@
 ghost use Rattle.std.specs.Prelude.{◌≡◌, [], map, All, IfOk, OnOk, Some};
 ghost use Rattle.c_types.specs.Types.{type_at, IsIn};
 ghost use Rattle.bounds_plan.specs.ElaborateSource as source_spec;
-ghost use Rattle.bounds_plan.specs.ElaborateExpressions.{expression};
-ghost use Rattle.bounds_plan.specs.ElaborateFunctions.{declared_all, with_struct, with_signature};
+ghost use Rattle.bounds_plan.specs.ElaborateFunctions.{with_struct, with_signature};
 ghost use Rattle.steps_facts.specs.Seen.{reached_of};
 ghost use Rattle.steps_known.specs.Known.{around_of};
-ghost use Rattle.steps_items.specs.Around.{IsSource, IsGone, IsHead, table_of, around_at, signature_at, behind_variable, parameters_at_head};
+ghost use Rattle.steps_items.specs.Around.{IsSource, IsGone, IsHead, table_of, around_at, signature_at, behind_variable, members_next, parameters_next};
 
 use c_check_rules::Bind;
 use c_look_declarations::{
@@ -80,9 +79,9 @@ fn struct_types(
 ) -> Result<DeclaredTypes, OutOfMemory>
     requires source { IsSource source.now }
     requires gone { IsGone source.now gone.now }
-    ensures types { IfOk result (λ d. map (type_at (table_of source.now)) d.types ≡ (declared_all expression source_spec.past_member members.now (around_at source.now gone.now) (reached_of gone.now.after)).types) }
+    ensures types { IfOk result (λ d. map (type_at (table_of source.now)) d.types ≡ (members_next source.now gone.now members.now).types) }
     ensures known { IfOk result (λ d. All (IsIn (table_of source.now)) d.types) }
-    ensures after { IfOk result (λ d. reached_of d.after ≡ (declared_all expression source_spec.past_member members.now (around_at source.now gone.now) (reached_of gone.now.after)).after) }
+    ensures after { IfOk result (λ d. reached_of d.after ≡ (members_next source.now gone.now members.now).after) }
 {
     let known = known_outside(source, gone);
     members_declared(alloc, &known, members, gone.after)
@@ -99,8 +98,8 @@ pub fn past_struct(
     requires source { IsSource source.now }
     requires gone { IsGone source.now gone.old }
     ensures gone { IsGone source.now gone.new }
-    ensures around { OnOk result (around_at source.now gone.new ≡ with_struct tag.now members.now (declared_all expression source_spec.past_member members.now (around_at source.now gone.old) (reached_of gone.old.after)).types (around_at source.now gone.old)) }
-    ensures after { OnOk result (reached_of gone.new.after ≡ (declared_all expression source_spec.past_member members.now (around_at source.now gone.old) (reached_of gone.old.after)).after) }
+    ensures around { OnOk result (around_at source.now gone.new ≡ with_struct tag.now members.now (members_next source.now gone.old members.now).types (around_at source.now gone.old)) }
+    ensures after { OnOk result (reached_of gone.new.after ≡ (members_next source.now gone.old members.now).after) }
 {
     let declared = struct_types(alloc, source, gone, members)?;
     let types = &source.checked.types;
@@ -192,7 +191,7 @@ fn head_here(
     requires source { IsSource source.now }
     requires gone { IsGone source.now gone.now }
     ensures head { IfOk result (λ h. IsHead source.now (around_at source.now gone.now) (reached_of gone.now.after) parameters.now h.head) }
-    ensures after { IfOk result (λ h. reached_of h.after ≡ (parameters_at_head parameters.now (around_at source.now gone.now) (reached_of gone.now.after)).after) }
+    ensures after { IfOk result (λ h. reached_of h.after ≡ (parameters_next source.now gone.now parameters.now).after) }
 {
     let known = known_outside(source, gone);
     let meant = known.bind_here(gone.after)?;
@@ -222,7 +221,7 @@ pub fn past_declarator(
     ensures gone { IsGone source.now gone.new }
     ensures head { IfOk result (IsHead source.now (around_at source.now gone.old) (reached_of gone.old.after) parameters.now) }
     ensures around { IfOk result (λ h. around_at source.now gone.new ≡ with_signature h.number (signature_at source.now h) (around_at source.now gone.old)) }
-    ensures after { OnOk result (reached_of gone.new.after ≡ (parameters_at_head parameters.now (around_at source.now gone.old) (reached_of gone.old.after)).after) }
+    ensures after { OnOk result (reached_of gone.new.after ≡ (parameters_next source.now gone.old parameters.now).after) }
 {
     let here = head_here(alloc, source, gone, parameters)?;
     let head = here.head;
