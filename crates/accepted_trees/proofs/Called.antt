@@ -2,6 +2,8 @@
 use Rattle.std.proofs.Common.{◌≡◌, ℕ, zero, suc, ◌<◌, ◌≤◌, ◌==◌, ◌-◌, nat_lt, refl, sym, ap, ◌∙◌, subst, Bool, true, false, List, [], ◌∷◌, length, if◌then◌else◌, arith}
 use Rattle.std.specs.Prelude.{Option, None, Some, slice_get}
 use Rattle.fat_ir.specs.Step.{Located}
+use Rattle.mx_base.specs.declared.services.CService.{CService}
+use Rattle.mx_base.specs.declared.services.CService.TheVariants as in_c
 use Rattle.c_types.specs.Types.{CType}
 use Rattle.c_check_rules.specs.declared.names.Scope.{Scope}
 use Rattle.c_check_rules.specs.declared.names.Variable.{Variable}
@@ -12,12 +14,14 @@ use Rattle.c_check_rules.specs.declared.predeclared.Bind.TheVariants as d
 use Rattle.c_check_rules.specs.declared.predeclared.Found.{Found}
 use Rattle.c_check_rules.specs.declared.predeclared.Found.TheVariants as f
 use Rattle.c_check_rules.specs.Names.{numbered, found_in, among_locals, among_variables, among_functions, local_found, variable_found, function_found, local_at, variable_at, function_at}
-use Rattle.c_check_rules.specs.Predeclared.{predeclared_at, predeclared_by, service, builtin}
+use Rattle.c_check_rules.specs.declared.predeclared.Builtin.{Builtin}
+use Rattle.c_check_rules.specs.declared.predeclared.Builtin.TheVariants as on_bounds
+use Rattle.c_check_rules.specs.Predeclared.{service_named, builtin_named, predeclared_by, service, builtin}
 use Rattle.c_check_typing.specs.declared.typed.Notes.{Notes}
 use Rattle.c_check_typing.specs.Notes.{with_kind, with_bind}
 use Rattle.c_check_typing.specs.Rules.{call_with, call_own}
-use Rattle.bounds_plan.specs.ElaborateTypes.{sort_of}
-use Rattle.bounds_plan.specs.ElaborateSource.{Signature, Reached, Around, kind_at, bind_at}
+use Rattle.bounds_plan.specs.elaboration.Types.{sort_of}
+use Rattle.bounds_plan.specs.elaboration.Source.{Signature, Reached, Around, kind_at, bind_at}
 use Rattle.c_accepted.specs.Alike.{meanings_of, signature_seen, signatures_seen, IsAt, Front}
 use Rattle.c_accepted.proofs.Going.{got_behind}
 use Rattle.accepted_trees.specs.Limits.{SignaturesWithin, SymbolsServe}
@@ -33,31 +37,34 @@ abbrev pub IsSigned : List Function → Bind → CType → Type 0
 IsSigned functions (d.Fun number) result = Declares functions number result
 IsSigned functions (d.Global number) result = Unit {0}
 IsSigned functions (d.Local number) result = Unit {0}
-IsSigned functions (d.Service number) result = Unit {0}
-IsSigned functions (d.Builtin number) result = Unit {0}
+IsSigned functions (d.Service service) result = Unit {0}
+IsSigned functions (d.Builtin builtin) result = Unit {0}
 
 abbrev pub FoundSigned : List Function → Found → Type 0
 FoundSigned functions f.Missing = Unit {0}
 FoundSigned functions (f.Variable bind kind) = Unit {0}
 FoundSigned functions (f.Callable bind result params) = IsSigned functions bind result
 
-record IsFound (functions : List Function) (found : Found) : Type 0 where
-  is : FoundSigned functions found
+service_signed : (functions : List Function) (service_of : CService) → FoundSigned functions (service service_of)
+service_signed functions in_c.Print = tt
+service_signed functions in_c.Put = tt
+service_signed functions in_c.Get = tt
+service_signed functions in_c.Alloc = tt
+service_signed functions in_c.Free = tt
+service_signed functions in_c.Exit = tt
 
-found_if : (functions : List Function) (b : Bool) (x y : Found) → IsFound functions x → IsFound functions y → IsFound functions (if b then x else y)
-found_if functions true x y h k = h
-found_if functions false x y h k = k
+builtin_signed : (functions : List Function) (builtin_of : Builtin) → FoundSigned functions (builtin builtin_of)
+builtin_signed functions on_bounds.SetBounds = tt
+builtin_signed functions on_bounds.NarrowBounds = tt
+builtin_signed functions on_bounds.CopyBounds = tt
+builtin_signed functions on_bounds.InitBounds = tt
+builtin_signed functions on_bounds.LowerBound = tt
+builtin_signed functions on_bounds.UpperBound = tt
 
-service_found : (functions : List Function) (n : ℕ) → IsFound functions (service n)
-service_found functions n = found_if functions (n == 0) _ _ record { is = tt } (found_if functions (n == 1) _ _ record { is = tt } (found_if functions (n == 2) _ _ record { is = tt }
-    (found_if functions (n == 3) _ _ record { is = tt } (found_if functions (n == 4) _ _ record { is = tt } record { is = tt }))))
-
-builtin_found : (functions : List Function) (n : ℕ) → IsFound functions (builtin n)
-builtin_found functions n = found_if functions (n == 0) _ _ record { is = tt } (found_if functions (n == 1) _ _ record { is = tt } (found_if functions (n == 2) _ _ record { is = tt } record { is = tt }))
-
-predeclared_signed : (functions : List Function) (at : Option ℕ) → FoundSigned functions (predeclared_by at)
-predeclared_signed functions None = tt
-predeclared_signed functions (Some n) = (found_if functions (nat_lt n 6) (service n) (builtin (n - 6)) (service_found functions n) (builtin_found functions (n - 6))).is
+predeclared_signed : (functions : List Function) (as_service : Option CService) (as_builtin : Option Builtin) → FoundSigned functions (predeclared_by as_service as_builtin)
+predeclared_signed functions (Some p) q = service_signed functions p
+predeclared_signed functions None (Some q) = builtin_signed functions q
+predeclared_signed functions None None = tt
 
 local_signed : (functions : List Function) (x : Option LocalName) → FoundSigned functions (local_found x)
 local_signed functions None = tt
@@ -81,7 +88,7 @@ function_signed functions at (Some x) few e = subst (λ n. Declares functions n 
 
 module _ (scope : Scope) (few : length scope.functions ≤ 4294967295) (name : List ℕ) where
   in_functions : (at : Option ℕ) → FoundSigned scope.functions (among_functions scope name at)
-  in_functions None = predeclared_signed scope.functions (predeclared_at name)
+  in_functions None = predeclared_signed scope.functions (service_named name) (builtin_named name)
   in_functions (Some at) = function_signed scope.functions at (slice_get scope.functions at) few refl
 
   in_variables : (at : Option ℕ) → FoundSigned scope.functions (among_variables scope name at)
@@ -120,8 +127,8 @@ module _ (located : ℕ → Located) (pointer : Bool) (returns : ℕ → Bool) (
   bound_right functions around (d.Fun number) result same within serve is = λ s e. (within number s e, serve.serve number s e, λ p. ap sort_of (gives_same functions around.signatures number result s same is e) ∙ p)
   bound_right functions around (d.Global number) result same within serve is = tt
   bound_right functions around (d.Local number) result same within serve is = tt
-  bound_right functions around (d.Service number) result same within serve is = tt
-  bound_right functions around (d.Builtin number) result same within serve is = tt
+  bound_right functions around (d.Service service) result same within serve is = tt
+  bound_right functions around (d.Builtin builtin) result same within serve is = tt
 
   there : (around : Around) (bind : Bind) (kind : CType) (n : Notes) (r : Reached) → Front (meanings_of (with_kind kind (with_bind bind n))) around.meanings → IsAt r (meanings_of n) → Right around kind bind → Right around (kind_at around r) (bind_at around r)
   there around bind kind n r w at h = subst (λ k. Right around k (bind_at around r)) (sym (got_behind n.kinds around.meanings.kinds kind _ r.kind w.kinds at.kind))

@@ -7,25 +7,35 @@ use Rattle.mx_base.specs.declared.places.Place.{Place}
 use Rattle.mx_base.specs.declared.operators.Arithmetic.{Arithmetic}
 use Rattle.mx_base.specs.declared.operators.Arithmetic.TheVariants.{Mul, Div, Rem, Add, Sub, Shl, Shr, BitAnd, BitXor, BitOr}
 use Rattle.mx_base.specs.declared.operators.Comparison.{Comparison}
+use Rattle.mx_base.specs.declared.services.CService.{CService}
+use Rattle.mx_base.specs.declared.services.CService.TheVariants as in_c
 use Rattle.narrowing.specs.declared.member.Rule.{Rule}
 use Rattle.narrowing.specs.declared.member.Rule.TheVariants.{Keep, Meet}
 use Rattle.narrowing.specs.Member.{member_keeps}
 use Rattle.narrowing.specs.Element.{element_meets}
+use Rattle.c_tree.specs.declared.operators.UnaryOp.{UnaryOp}
+use Rattle.c_tree.specs.declared.operators.UnaryOp.TheVariants as u
+use Rattle.c_tree.specs.declared.operators.Logical.{Logical}
+use Rattle.c_tree.specs.declared.operators.Logical.TheVariants as l
+use Rattle.c_tree.specs.declared.operators.BinaryOp.{BinaryOp}
+use Rattle.c_tree.specs.declared.operators.BinaryOp.TheVariants as o
 use Rattle.c_types.specs.Types.{CType, Void, Int, Pointer, Array, Struct, StructType}
 use Rattle.c_check_rules.specs.Conversions.{is_scalar}
-use Rattle.bounds_plan.specs.Core.{NumberExpr, Word, Convert, PointerExpr, Arguments}
+use Rattle.bounds_plan.specs.meaning.Core.{NumberExpr, Word, Convert, PointerExpr, Arguments}
 use Rattle.fat_ir.specs.Step.{Located}
-use Rattle.bounds_plan.specs.Code.{arguments_at}
-use Rattle.bounds_plan.specs.Follows.{count}
+use Rattle.bounds_plan.specs.steps.Code.{arguments_at}
+use Rattle.bounds_plan.specs.steps.Follows.{count}
 use Rattle.asked_steps.specs.Trees.{RuleWithin, CallWithin, Within, WithinPtr, WithinAll, EffectWithin}
 use Rattle.accepted_trees.specs.Limits.{HasSmallSize, TypeWithin, StructsWithin, passed_as, passed, AreScalars, SignatureWithin, SymbolServes}
 use Rattle.accepted_trees.proofs.Sizes.{size_word, step_word, scalars_within}
-use Rattle.bounds_plan.specs.ElaborateTypes.{Value, Numeric, Address, number_in, pointer_in, Sort, ANumber, APointer, AWhole, NoValue, sort_of, is_array, kind_of, size_in, step_in, promoted, common, done_in, keeps, converted, right_operand, wanted_pointer, given_as, given, cast_as}
+use Rattle.bounds_plan.specs.elaboration.Types.{Value, Numeric, Address, number_in, pointer_in, Sort, ANumber, APointer, AWhole, NoValue, sort_of, is_array, kind_of, size_in, step_in, promoted, common, done_in, keeps, converted, right_operand, wanted_pointer, given_as, given, cast_as}
 use Rattle.c_check_rules.specs.declared.predeclared.Bind.{Bind}
-use Rattle.c_check_rules.specs.declared.predeclared.Bind.TheVariants.{Global, Local, Fun, Service, Builtin}
-use Rattle.bounds_plan.specs.ElaborateSource.{Reached, Signature, Around}
-use Rattle.bounds_plan.specs.ElaboratePlaces.{Lvalue, NumberVariable, PointerVariable, InMemory, address_in, loaded_as, read_as, stored_as, written_as, changed_at, changed_as, offset_in, is_trailing, member_at, under_rule}
-use Rattle.bounds_plan.specs.ElaborateExpressions.{Found, effect_of, no_place, a_place, symbol_of, promoted_number, minus_one, negative, inverse, is_zero, unary, calculated, arithmetic, compared, binary_as, chosen_as, assigned, struct_copied, assignment_effect, compound_at, changed, assign_by, stepped_by, with_argument, arguments_for, called_as, argument_at, number_of_argument, pointer_of_argument, served, built_in, function_called, called, index_rule, index}
+use Rattle.c_check_rules.specs.declared.predeclared.Bind.TheVariants.{Global, Local, Fun, Service, Builtin as OfBounds}
+use Rattle.c_check_rules.specs.declared.predeclared.Builtin.{Builtin}
+use Rattle.c_check_rules.specs.declared.predeclared.Builtin.TheVariants as on_bounds
+use Rattle.bounds_plan.specs.elaboration.Source.{Reached, Signature, Around}
+use Rattle.bounds_plan.specs.elaboration.Places.{Lvalue, NumberVariable, PointerVariable, InMemory, address_in, loaded_as, read_as, stored_as, written_as, changed_at, changed_as, offset_in, is_trailing, member_at, under_rule}
+use Rattle.bounds_plan.specs.elaboration.Expressions.{Found, effect_of, no_place, a_place, symbol_of, promoted_number, minus_one, negative, inverse, is_zero, unary, calculated, arithmetic, compared, logical, binary, chosen_as, assigned, struct_copied, assignment_effect, changed, assign_by, stepped_by, with_argument, arguments_for, called_as, argument_at, number_of_argument, pointer_of_argument, served, built_in, function_called, called, index_rule, index}
 
 module _ (located : ℕ → Located) (pointer : Bool) (returns : ℕ → Bool) (takes : ℕ → List (ℕ × Option ℕ) → Bool) where
   abbrev pub ValueWithin : Value → Type 0
@@ -142,10 +152,6 @@ module _ (located : ℕ → Located) (pointer : Bool) (returns : ℕ → Bool) (
   pub a_place_within : (structs : List StructType) (type : CType) (l : Lvalue) (place : Place) (after : Reached) → TypeWithin structs type → PlaceWithin l → FoundWithin structs (a_place type l place after)
   a_place_within structs type l place after t h = let v = read_as (sort_of type) place l in let k = read_within (sort_of type) place l h in record { type = t; value = k; lvalue = h; effect = effect_within v k }
 
-  either_within : (structs : List StructType) (b : Bool) (f g : Found) → FoundWithin structs f → FoundWithin structs g → FoundWithin structs (if b then f else g)
-  either_within structs true f g h k = h
-  either_within structs false f g h k = k
-
   -- ---- operators
 
   all_bits : minus_one < 2 ^ 64
@@ -157,12 +163,12 @@ module _ (located : ℕ → Located) (pointer : Bool) (returns : ℕ → Bool) (
   promoted_within : (structs : List StructType) (a : Found) → FoundWithin structs a → Within located pointer returns takes (promoted_number a)
   promoted_within structs a h = converted_within (kind_of a.type) (promoted (kind_of a.type)) (number_in a.value) (number_within a.value h.value)
 
-  pub unary_within : (structs : List StructType) (op : ℕ) (type : CType) (a : Found) (place : Place) (after : Reached) → TypeWithin structs type → FoundWithin structs a → FoundWithin structs (unary op type a place after)
-  unary_within structs op type a place after t h = either_within structs (op == 0) _ _ (no_place_within structs type (Numeric (negative a)) place after t (promoted_within structs a h, all_bits))
-      (either_within structs (op == 1) _ _ (no_place_within structs type (Numeric (inverse a)) place after t (promoted_within structs a h, all_bits))
-      (either_within structs (op == 2) _ _ (no_place_within structs type (Numeric (is_zero a)) place after t (number_within a.value h.value, no_bits))
-      (either_within structs (op == 3) _ _ (a_place_within structs type (InMemory (pointer_in a.value)) place after t (pointer_within a.value h.value))
-      (no_place_within structs type (Address (address_in a.lvalue)) place after t (address_within a.lvalue h.lvalue)))))
+  pub unary_within : (structs : List StructType) (op : UnaryOp) (type : CType) (a : Found) (place : Place) (after : Reached) → TypeWithin structs type → FoundWithin structs a → FoundWithin structs (unary op type a place after)
+  unary_within structs u.Neg type a place after t h = no_place_within structs type (Numeric (negative a)) place after t (promoted_within structs a h, all_bits)
+  unary_within structs u.BitNot type a place after t h = no_place_within structs type (Numeric (inverse a)) place after t (promoted_within structs a h, all_bits)
+  unary_within structs u.Not type a place after t h = no_place_within structs type (Numeric (is_zero a)) place after t (number_within a.value h.value, no_bits)
+  unary_within structs u.Deref type a place after t h = a_place_within structs type (InMemory (pointer_in a.value)) place after t (pointer_within a.value h.value)
+  unary_within structs u.AddressOf type a place after t h = no_place_within structs type (Address (address_in a.lvalue)) place after t (address_within a.lvalue h.lvalue)
 
   calculated_within : (op : Arithmetic) (ka kb : IntKind) (a b : NumberExpr) → Within located pointer returns takes a → Within located pointer returns takes b → Within located pointer returns takes (calculated op ka kb a b)
   calculated_within op ka kb a b h k = (converted_within ka (done_in op ka kb) a h, right_within op kb (done_in op ka kb) b k)
@@ -179,14 +185,14 @@ module _ (located : ℕ → Located) (pointer : Bool) (returns : ℕ → Bool) (
   compared_within op ka kb (Numeric a) (Address q) h k = (h, k)
   compared_within op ka kb (Address p) (Address q) h k = (h, k)
 
-  either_number : (b : Bool) (x y : NumberExpr) → Within located pointer returns takes x → Within located pointer returns takes y → Within located pointer returns takes (if b then x else y)
-  either_number true x y h k = h
-  either_number false x y h k = k
+  logical_within : (op : Logical) (a b : NumberExpr) → Within located pointer returns takes a → Within located pointer returns takes b → Within located pointer returns takes (logical op a b)
+  logical_within l.And a b h k = (h, k)
+  logical_within l.Or a b h k = (h, k)
 
-  pub binary_as_within : (o : Option Arithmetic) (c : Option Comparison) (n : ℕ) (around : Around) (a b : Found) → FoundWithin around.structs a → FoundWithin around.structs b → ValueWithin (binary_as o c n around a b)
-  binary_as_within (Some op) c n around a b h k = arithmetic_within around.structs op a.type b.type a.value b.value h.type k.type h.value k.value
-  binary_as_within None (Some op) n around a b h k = compared_within op (kind_of a.type) (kind_of b.type) a.value b.value h.value k.value
-  binary_as_within None None n around a b h k = either_number (n == 16) _ _ (number_within a.value h.value, number_within b.value k.value) (number_within a.value h.value, number_within b.value k.value)
+  pub binary_within : (op : BinaryOp) (around : Around) (a b : Found) → FoundWithin around.structs a → FoundWithin around.structs b → ValueWithin (binary op around a b)
+  binary_within (o.Arithmetic op) around a b h k = arithmetic_within around.structs op a.type b.type a.value b.value h.type k.type h.value k.value
+  binary_within (o.Comparison op) around a b h k = compared_within op (kind_of a.type) (kind_of b.type) a.value b.value h.value k.value
+  binary_within (o.Logical op) around a b h k = logical_within op _ _ (number_within a.value h.value) (number_within b.value k.value)
 
   pub chosen_within : (structs : List StructType) (sort : Sort) (c a b : Found) → FoundWithin structs c → FoundWithin structs a → FoundWithin structs b → ValueWithin (chosen_as sort c a b)
   chosen_within structs (ANumber kind) c a b h k l =
@@ -215,11 +221,11 @@ module _ (located : ℕ → Located) (pointer : Bool) (returns : ℕ → Bool) (
   changed_within : (structs : List StructType) (op : Arithmetic) (a : Found) (from : IntKind) (e : NumberExpr) (old : Bool) → FoundWithin structs a → Within located pointer returns takes e → ValueWithin (changed structs op a from e old)
   changed_within structs op a from e old h k = changed_as_within (kind_of a.type) (sort_of a.type) a.place a.lvalue op from (step_in structs a.type) e old (step_word structs a.type h.type) h.lvalue k
 
-  pub assign_within : (op : Option ℕ) (around : Around) (a b : Found) (place : Place) (after : Reached) → FoundWithin around.structs a → FoundWithin around.structs b → FoundWithin around.structs (assign_by op around a b place after)
+  pub assign_within : (op : Option Arithmetic) (around : Around) (a b : Found) (place : Place) (after : Reached) → FoundWithin around.structs a → FoundWithin around.structs b → FoundWithin around.structs (assign_by op around a b place after)
   assign_within None around a b place after h k = let v = assigned_within around.structs a b h k in
       record { type = h.type; value = v; lvalue = pointer_within (assigned a b) v; effect = effect_assigned around.structs a.type a b refl h k }
-  assign_within (Some op) around a b place after h k = no_place_within around.structs a.type (changed around.structs (compound_at op) a (kind_of b.type) (number_in b.value) false) place after h.type
-      (changed_within around.structs (compound_at op) a (kind_of b.type) (number_in b.value) false h (number_within b.value k.value))
+  assign_within (Some op) around a b place after h k = no_place_within around.structs a.type (changed around.structs op a (kind_of b.type) (number_in b.value) false) place after h.type
+      (changed_within around.structs op a (kind_of b.type) (number_in b.value) false h (number_within b.value k.value))
 
   one_bit : 1 < 2 ^ 64
   one_bit = omega arith
@@ -287,29 +293,27 @@ module _ (located : ℕ → Located) (pointer : Bool) (returns : ℕ → Bool) (
   pointer_argument_within : (structs : List StructType) (n : ℕ) (all : List Found) → AllFoundWithin structs all → WithinPtr located pointer returns takes (pointer_of_argument n all)
   pointer_argument_within structs n all h = wanted_within (argument_at n all).value (argument_within structs n all h).value
 
-  either_value : (b : Bool) (x y : Value) → ValueWithin x → ValueWithin y → ValueWithin (if b then x else y)
-  either_value true x y h k = h
-  either_value false x y h k = k
+  served_within : (structs : List StructType) (service : CService) (all : List Found) → AllFoundWithin structs all → ValueWithin (served service all)
+  served_within structs in_c.Print all h = number_argument_within structs I64 0 all h
+  served_within structs in_c.Put all h = number_argument_within structs I32 0 all h
+  served_within structs in_c.Get all h = tt
+  served_within structs in_c.Alloc all h = number_argument_within structs U64 0 all h
+  served_within structs in_c.Free all h = pointer_argument_within structs 0 all h
+  served_within structs in_c.Exit all h = number_argument_within structs I32 0 all h
 
-  either_pointer : (b : Bool) (x y : PointerExpr) → WithinPtr located pointer returns takes x → WithinPtr located pointer returns takes y → WithinPtr located pointer returns takes (if b then x else y)
-  either_pointer true x y h k = h
-  either_pointer false x y h k = k
-
-  served_within : (structs : List StructType) (number : ℕ) (all : List Found) → AllFoundWithin structs all → ValueWithin (served number all)
-  served_within structs number all h = either_value (number == 0) _ _ (number_argument_within structs I64 0 all h) (either_value (number == 1) _ _ (number_argument_within structs I32 0 all h)
-      (either_value (number == 2) _ _ tt (either_value (number == 3) _ _ (number_argument_within structs U64 0 all h) (either_value (number == 4) _ _ (pointer_argument_within structs 0 all h) (number_argument_within structs I32 0 all h)))))
-
-  built_in_within : (structs : List StructType) (number : ℕ) (all : List Found) → AllFoundWithin structs all → WithinPtr located pointer returns takes (built_in number all)
-  built_in_within structs number all h = either_pointer (number == 0) _ _ (pointer_argument_within structs 0 all h, number_argument_within structs U64 1 all h)
-      (either_pointer (number == 1) _ _ (pointer_argument_within structs 0 all h, pointer_argument_within structs 1 all h, number_argument_within structs U64 2 all h)
-      (either_pointer (number == 2) _ _ (pointer_argument_within structs 0 all h, pointer_argument_within structs 1 all h) (either_pointer (number == 3) _ _ (pointer_argument_within structs 0 all h)
-      (either_pointer (number == 4) _ _ (pointer_argument_within structs 0 all h) (pointer_argument_within structs 0 all h)))))
+  built_in_within : (structs : List StructType) (builtin : Builtin) (all : List Found) → AllFoundWithin structs all → WithinPtr located pointer returns takes (built_in builtin all)
+  built_in_within structs on_bounds.SetBounds all h = (pointer_argument_within structs 0 all h, number_argument_within structs U64 1 all h)
+  built_in_within structs on_bounds.NarrowBounds all h = (pointer_argument_within structs 0 all h, pointer_argument_within structs 1 all h, number_argument_within structs U64 2 all h)
+  built_in_within structs on_bounds.CopyBounds all h = (pointer_argument_within structs 0 all h, pointer_argument_within structs 1 all h)
+  built_in_within structs on_bounds.InitBounds all h = pointer_argument_within structs 0 all h
+  built_in_within structs on_bounds.LowerBound all h = pointer_argument_within structs 0 all h
+  built_in_within structs on_bounds.UpperBound all h = pointer_argument_within structs 0 all h
 
   -- a function that is called as it is declared, and gives a pointer where the call has the type of one
   abbrev pub CallsRight : Around → CType → Bind → Type 0
   CallsRight around type (Fun number) = (s : Signature) → slice_get around.signatures number ≡ Some s → SignatureWithin s × SymbolServes located returns takes (symbol_of around number) s × (sort_of type ≡ APointer → sort_of s.result ≡ APointer)
-  CallsRight around type (Service number) = Unit {0}
-  CallsRight around type (Builtin number) = Unit {0}
+  CallsRight around type (Service service) = Unit {0}
+  CallsRight around type (OfBounds builtin) = Unit {0}
   CallsRight around type (Global number) = Unit {0}
   CallsRight around type (Local number) = Unit {0}
 
@@ -322,8 +326,8 @@ module _ (located : ℕ → Located) (pointer : Bool) (returns : ℕ → Bool) (
 
   pub called_within : (around : Around) (type : CType) (m : Bind) (all : List Found) → CallsRight around type m → AllFoundWithin around.structs all → ValueWithin (called around type m all)
   called_within around type (Fun number) all right h = function_called_within around type number (slice_get around.signatures number) all right h
-  called_within around type (Service number) all right h = served_within around.structs number all h
-  called_within around type (Builtin number) all right h = built_in_within around.structs number all h
+  called_within around type (Service service) all right h = served_within around.structs service all h
+  called_within around type (OfBounds builtin) all right h = built_in_within around.structs builtin all h
   called_within around type (Global number) all right h = no_bits
   called_within around type (Local number) all right h = no_bits
 

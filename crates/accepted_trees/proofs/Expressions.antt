@@ -8,14 +8,13 @@ use Rattle.mx_base.specs.declared.numbers.IntKind.{IntKind}
 use Rattle.mx_base.specs.Numbers.{word_of, value_of, extended}
 use Rattle.mx_base.proofs.NumbersLemmas.{residue-lt}
 use Rattle.mx_base.specs.declared.places.Place.{Place}
-use Rattle.mx_base.specs.Operators.{arithmetic_at, comparison_at}
 use Rattle.c_tree.specs.declared.tree.Base.{Base}
 use Rattle.c_tree.specs.declared.tree.Base.TheVariants as base
 use Rattle.c_tree.specs.declared.tree.Expr.{Expr, Expr-F, fold-Expr}
 use Rattle.c_tree.specs.declared.tree.ExprKind.{ExprKind-F}
 use Rattle.c_tree.specs.declared.tree.ExprKind.TheFolds as ef
 use Rattle.c_tree.specs.declared.tree.ExprKind.TheOpen as e
-use Rattle.c_tree.specs.Formed.{stands, every, has_number_type, is_number, is_unary, is_binary, is_compound, formed_base, few_stars, expr_step, formed_expr}
+use Rattle.c_tree.specs.Formed.{stands, every, has_number_type, is_number, formed_base, few_stars, expr_step, formed_expr}
 use Rattle.c_tree.specs.Names.{is_name}
 use Rattle.c_types.specs.Types.{CType, Void, Int, StructType}
 use Rattle.c_check_rules.specs.declared.names.Scope.{Scope}
@@ -26,12 +25,12 @@ use Rattle.c_check_typing.specs.declared.typed.Notes.{Notes}
 use Rattle.c_check_typing.specs.Notes.{Own, Seen, leaf, one, two, three, unevaluated, with_typed, first_evaluated}
 use Rattle.c_check_typing.specs.Rules.{text_own, size_own, params_of, params_after, takes_function, call_own}
 use Rattle.c_check_typing.specs.Expressions.{Reading as Checking, arguments, and_fits, call, seen}
-use Rattle.bounds_plan.specs.Core.{Object}
-use Rattle.bounds_plan.specs.Laws.{most_bytes}
-use Rattle.bounds_plan.specs.ElaborateTypes.{ANumber, APointer, AWhole, NoValue, Sort, sort_of, size_in, pointer_in, target_of}
-use Rattle.bounds_plan.specs.ElaborateSource.{Stand, Private, Frame, Meanings, Reached, Around, kind_at, bind_at, literal_at, past_kind, past_name}
-use Rattle.bounds_plan.specs.ElaboratePlaces.{Lvalue, private_values_of, variable_at as placed_at, variable_of, place_among, struct_of}
-use Rattle.bounds_plan.specs.ElaborateExpressions.{Found, Reading, named, called, find_all, binary, chosen_as, member, arrow, index, based, starred, step, expression}
+use Rattle.bounds_plan.specs.meaning.Core.{Object}
+use Rattle.bounds_plan.specs.laws.Laws.{most_bytes}
+use Rattle.bounds_plan.specs.elaboration.Types.{ANumber, APointer, AWhole, NoValue, Sort, sort_of, size_in, pointer_in, target_of}
+use Rattle.bounds_plan.specs.elaboration.Source.{Stand, Private, Frame, Meanings, Reached, Around, kind_at, bind_at, literal_at, past_kind, past_name}
+use Rattle.bounds_plan.specs.elaboration.Places.{Lvalue, private_values_of, variable_at as placed_at, variable_of, place_among, struct_of}
+use Rattle.bounds_plan.specs.elaboration.Expressions.{Found, Reading, named, called, find_all, binary, chosen_as, member, arrow, index, based, starred, step, expression}
 use Rattle.c_check_rules.specs.declared.predeclared.Bind.{Bind}
 use Rattle.c_check_rules.specs.declared.predeclared.Bind.TheVariants.{Global, Local, Fun, Service, Builtin}
 use Rattle.c_tree.proofs.Inductions.{ExprA, ExprB, bare_exprs, bare_exprs_struct, every_exprs, exprs_fused}
@@ -46,7 +45,7 @@ use Rattle.asked_steps.specs.Trees.{WithinPtr, EffectWithin}
 use Rattle.accepted_trees.specs.Limits.{TypeWithin, TypesWithin, MeaningsWithin, StandWithin, AroundWithin}
 use Rattle.accepted_trees.proofs.Sizes.{size_small, size_word}
 use Rattle.accepted_trees.proofs.Called.{found_signed, call_right}
-use Rattle.accepted_trees.proofs.Closing.{CallsRight, PlaceWithin, FoundWithin, AllFoundWithin, no_place_within, a_place_within, unary_within, binary_as_within, chosen_within, assign_within, stepped_within, cast_within, called_within, index_within, member_at_within, pointer_within}
+use Rattle.accepted_trees.proofs.Closing.{CallsRight, PlaceWithin, FoundWithin, AllFoundWithin, no_place_within, a_place_within, unary_within, binary_within, chosen_within, assign_within, stepped_within, cast_within, called_within, index_within, member_at_within, pointer_within}
 
 -- ---- the checker's fold and the elaboration's beside whether the tree is formed
 
@@ -204,8 +203,8 @@ module _ (located : ℕ → Located) (pointer : Bool) (returns : ℕ → Bool) (
       a_place_within located pointer returns takes around.structs type _ place after t ((omega arith, omega (arith, le)), k.symbols.low _)
   named_within around type (Local number) place after k t = a_place_within located pointer returns takes around.structs type _ place after t (variable_within around.structs around.variables around.stands 0 number k.variables k.stands)
   named_within around type (Fun number) place after k t = no_place_within located pointer returns takes around.structs type _ place after t (k.symbols.low _)
-  named_within around type (Service number) place after k t = no_place_within located pointer returns takes around.structs type _ place after t nothing_fits
-  named_within around type (Builtin number) place after k t = no_place_within located pointer returns takes around.structs type _ place after t nothing_fits
+  named_within around type (Service service) place after k t = no_place_within located pointer returns takes around.structs type _ place after t nothing_fits
+  named_within around type (Builtin builtin) place after k t = no_place_within located pointer returns takes around.structs type _ place after t nothing_fits
 
   -- ---- numbers and texts
 
@@ -310,13 +309,13 @@ module _ (located : ℕ → Located) (pointer : Bool) (returns : ℕ → Bool) (
       named_within around (kind_at around r) (bind_at around r) place _ k.within t
   within_step (e.Unary op a) place f functions scope h m around k n r w at = let x = a.0.0.1 around r in
       let t = node_type _ _ (alike_step (e.Unary op a) place functions scope h) m scope around k n r w at x.after (ap (λ (y : Reached). y.kind) (unary_gives around.structs op (kind_at around x.after) x place (past_kind x.after)).after_is) in
-      unary_within located pointer returns takes around.structs op _ x place _ t (one_part place _ scope a (both_true (is_unary op) a.0.1 f).1 (unary_fine scope.structs op) h m around k n r w at)
-  within_step (e.Binary op a c) place f functions scope h m around k n r w at = let x = a.0.0.1 around r in let y = c.0.0.1 around x.after in let p = both_true (is_binary op && a.0.1) c.0.1 f in
+      unary_within located pointer returns takes around.structs op _ x place _ t (one_part place _ scope a f (unary_fine scope.structs op) h m around k n r w at)
+  within_step (e.Binary op a c) place f functions scope h m around k n r w at = let x = a.0.0.1 around r in let y = c.0.0.1 around x.after in let p = both_true a.0.1 c.0.1 f in
       let t = node_type _ _ (alike_step (e.Binary op a c) place functions scope h) m scope around k n r w at y.after refl in
-      let z = two_parts place _ scope a c (both_true (is_binary op) a.0.1 p.0).1 p.1 (binary_fine scope.structs op) h m around k n r w at in
-      no_place_within located pointer returns takes around.structs _ (binary op around x y) place _ t (binary_as_within located pointer returns takes (arithmetic_at op) (comparison_at op) op around x y z.0 z.1)
-  within_step (e.Assign op a c) place f functions scope h m around k n r w at = let x = a.0.0.1 around r in let p = both_true (is_compound op && a.0.1) c.0.1 f in
-      let z = two_parts place _ scope a c (both_true (is_compound op) a.0.1 p.0).1 p.1 (λ t u free. any_fine _ _ (assign_fine scope.structs op t u free)) h m around k n r w at in
+      let z = two_parts place _ scope a c p.0 p.1 (binary_fine scope.structs op) h m around k n r w at in
+      no_place_within located pointer returns takes around.structs _ (binary op around x y) place _ t (binary_within located pointer returns takes op around x y z.0 z.1)
+  within_step (e.Assign op a c) place f functions scope h m around k n r w at = let x = a.0.0.1 around r in let p = both_true a.0.1 c.0.1 f in
+      let z = two_parts place _ scope a c p.0 p.1 (λ t u free. any_fine _ _ (assign_fine scope.structs op t u free)) h m around k n r w at in
       assign_within located pointer returns takes op around x (c.0.0.1 around x.after) place _ z.0 z.1
   within_step (e.StepBy up before a) place f functions scope h m around k n r w at =
       stepped_within located pointer returns takes around up before (a.0.0.1 around r) place _ (one_part place _ scope a f (λ t free. any_fine _ _ (step_fine scope.structs t free)) h m around k n r w at)

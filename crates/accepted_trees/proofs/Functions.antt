@@ -33,16 +33,16 @@ use Rattle.c_check.specs.Standing.{structs_seen, AreLaid}
 use Rattle.c_check.proofs.Standing.{StandsBy}
 use Rattle.c_check.proofs.Growing.{both_hold}
 use Rattle.c_check.proofs.StandingItems.{Laid, kind_laid, start_good, nodes_within}
-use Rattle.bounds_plan.specs.Roots.{Begins}
-use Rattle.bounds_plan.specs.ElaborateTypes.{Sort, ANumber, APointer, AWhole, NoValue, sort_of}
-use Rattle.bounds_plan.specs.ElaborateSource.{Stand, Private, Frame, Meanings, SourceLayout, Signature, Around, declared_at, past_declaration, function_number}
-use Rattle.bounds_plan.specs.ElaboratePlaces.{private_values_of}
-use Rattle.bounds_plan.specs.ElaborateExpressions.{expression}
-use Rattle.bounds_plan.specs.ElaborateInitialisers.{initialiser}
-use Rattle.bounds_plan.specs.ElaborateStatements.{past_counts, maybe, declarations, statement_by}
-use Rattle.bounds_plan.specs.ElaborateFunctions.{no_frame, parameter_at, parameters_from, Defined, Gone, declared_all, with_signature, in_body, next_types, function_with, with_body, with_known, with_function, after_item, after_items, at_start as elaborated_at_start, gone_by, elaborated, signatures_of}
-use Rattle.bounds_plan.specs.ElaborateLaws.{TakesFew, AllTakeFew}
-use Rattle.bounds_plan.specs.Functions.{Parameter}
+use Rattle.bounds_plan.specs.laws.Roots.{Begins}
+use Rattle.bounds_plan.specs.elaboration.Types.{Sort, ANumber, APointer, AWhole, NoValue, sort_of}
+use Rattle.bounds_plan.specs.elaboration.Source.{Stand, Private, Frame, Meanings, SourceLayout, Signature, Around, declared_at, past_declaration, function_number}
+use Rattle.bounds_plan.specs.elaboration.Places.{private_values_of}
+use Rattle.bounds_plan.specs.elaboration.Expressions.{expression}
+use Rattle.bounds_plan.specs.elaboration.Initialisers.{initialiser}
+use Rattle.bounds_plan.specs.elaboration.Statements.{past_counts, maybe, declarations, statement_by}
+use Rattle.bounds_plan.specs.elaboration.Functions.{no_frame, parameter_at, parameters_from, Defined, Gone, declared_all, with_signature, in_body, next_types, function_with, with_body, with_known, with_function, after_item, after_items, at_start as elaborated_at_start, gone_by, elaborated, signatures_of}
+use Rattle.bounds_plan.specs.elaboration.Laws.{TakesFew, AllTakeFew}
+use Rattle.bounds_plan.specs.meaning.Functions.{Parameter}
 use Rattle.c_accepted.specs.Alike.{meanings_of, IsAt, Front, signature_seen, signatures_seen}
 use Rattle.c_accepted.proofs.Empty.{first_empty, second_empty}
 use Rattle.c_accepted.proofs.Going.{front_itself, front_then, Goes, begins_itself, begins_then}

@@ -21,12 +21,12 @@ use Rattle.c_check_statements.specs.declared.state.State.{State}
 use Rattle.c_check_statements.specs.Initialisers.{filling, fills_target, filling_walk, one_kinds, one_word, notes_word, one, is_crowded, many_judged, struct_members, part, part_of, part_walk, parts}
 use Rattle.c_check_statements.specs.Initialisers as c
 use Rattle.c_check_statements.specs.Walks.{◌then◌, at_node, seen_in}
-use Rattle.bounds_plan.specs.Laws.{most_bytes}
-use Rattle.bounds_plan.specs.ElaborateSource.{Meanings, Reached, Around}
-use Rattle.bounds_plan.specs.ElaborateTypes.{size_in}
-use Rattle.bounds_plan.specs.ElaboratePlaces.{Lvalue}
-use Rattle.bounds_plan.specs.ElaborateExpressions.{expression}
-use Rattle.bounds_plan.specs.ElaborateInitialisers.{Filling, one_filled, elements_filled, members_filled, many_filled, initialiser}
+use Rattle.bounds_plan.specs.laws.Laws.{most_bytes}
+use Rattle.bounds_plan.specs.elaboration.Source.{Meanings, Reached, Around}
+use Rattle.bounds_plan.specs.elaboration.Types.{size_in}
+use Rattle.bounds_plan.specs.elaboration.Places.{Lvalue}
+use Rattle.bounds_plan.specs.elaboration.Expressions.{expression}
+use Rattle.bounds_plan.specs.elaboration.Initialisers.{Filling, one_filled, elements_filled, members_filled, many_filled, initialiser}
 use Rattle.c_tree.proofs.Inductions.{InitA, InitB, bare_inits, bare_inits_struct, every_inits, inits_fused}
 use Rattle.c_accepted.specs.Alike.{meanings_of, signatures_seen, IsAt, Front}
 use Rattle.c_accepted.proofs.Empty.{not_above}

@@ -3,8 +3,8 @@ use Rattle.std.proofs.Common.{ℕ, sym, subst, Bool, List, [], ◌∷◌, ◌++�
 use Rattle.std.specs.Prelude.{Option}
 use Rattle.std.specs.List.{AllByRecursion}
 use Rattle.fat_ir.specs.Step.{Located}
-use Rattle.bounds_plan.specs.ElaborateTypes.{sort_of}
-use Rattle.bounds_plan.specs.Functions.{Linked}
+use Rattle.bounds_plan.specs.elaboration.Types.{sort_of}
+use Rattle.bounds_plan.specs.meaning.Functions.{Linked}
 use Rattle.c_accepted.specs.Linked.{declared_by, IsLinked}
 use Rattle.asked_steps.specs.Trees.{FunctionWithin}
 use Rattle.accepted_trees.specs.Limits.{gives_pointer, SymbolsServe, FunctionKeeps, LayoutWithin}

@@ -12,7 +12,7 @@ use Rattle.c_types.specs.Layouts.{next_multiple, layout_of, layout_of_struct}
 use Rattle.place_plan.specs.declared.plans.FramePlan.{FramePlan}
 use Rattle.place_plan.specs.Frames.{Variable, values_of, nothing_taken, spot_at, free_after, spots_from, free_after_all, frame_plan}
 use Rattle.place_plan.specs.Source.{body_known, plan_of}
-use Rattle.bounds_plan.specs.ElaborateFunctions.{no_frame}
+use Rattle.bounds_plan.specs.elaboration.Functions.{no_frame}
 use Rattle.c_accepted.specs.Planned.{stand_of, layout_frame, layout_of_plan}
 use Rattle.accepted_trees.specs.Limits.{StandWithin, LayoutWithin}
 use Rattle.accepted_trees.proofs.Sizes.{next_enough, by_some, struct_some}

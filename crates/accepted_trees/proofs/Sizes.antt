@@ -6,10 +6,10 @@ use Rattle.mx_base.specs.declared.numbers.IntKind.TheVariants.{I8, U8, I16, U16,
 use Rattle.c_types.specs.declared.layout.Layout.{Layout}
 use Rattle.c_types.specs.Types.{CType, Void, Int, Pointer, Array, Struct, StructType}
 use Rattle.c_types.specs.Layouts.{width, next_multiple, offsets_from, end_from, widest, struct_layout, layout_by, layout_of_struct}
-use Rattle.bounds_plan.specs.Core.{Scalar}
-use Rattle.bounds_plan.specs.Laws.{most_bytes}
-use Rattle.bounds_plan.specs.ElaborateScalars.{scalar_at, repeated, joined_at, scalars_by, scalars_of_struct, scalars_of}
-use Rattle.bounds_plan.specs.ElaborateTypes.{target_of, size_in, step_in}
+use Rattle.bounds_plan.specs.meaning.Core.{Scalar}
+use Rattle.bounds_plan.specs.laws.Laws.{most_bytes}
+use Rattle.bounds_plan.specs.elaboration.Scalars.{scalar_at, repeated, joined_at, scalars_by, scalars_of_struct, scalars_of}
+use Rattle.bounds_plan.specs.elaboration.Types.{target_of, size_in, step_in}
 use Rattle.asked_steps.specs.Trees.{ScalarsWithin}
 use Rattle.accepted_trees.specs.Limits.{TypeWithin}
 

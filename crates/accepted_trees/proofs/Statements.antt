@@ -20,13 +20,13 @@ use Rattle.c_check_statements.specs.Declarations.{with_local, is_here, local_dec
 use Rattle.c_check_statements.specs.Initialisers.{maybe_fills}
 use Rattle.c_check_statements.specs.Statements.{local, enter_block, enter_body, block_by, enter_loop, looped, jump, if_walk, while_walk, tested, for_rest, return_walk, statement}
 use Rattle.c_check_statements.specs.Walks.{stay, ◌then◌, walk_all, at_node, inside, seen_in, reads, maybe_reads}
-use Rattle.bounds_plan.specs.Laws.{most_bytes}
-use Rattle.bounds_plan.specs.Core.{Statement, Do, Break, Continue}
-use Rattle.bounds_plan.specs.ElaborateTypes.{sort_of, size_in, number_in}
-use Rattle.bounds_plan.specs.ElaborateSource.{Meanings, Reached, Around, bind_at, past_declaration, local_number}
-use Rattle.bounds_plan.specs.ElaborateExpressions.{expression}
-use Rattle.bounds_plan.specs.ElaborateInitialisers.{initialiser}
-use Rattle.bounds_plan.specs.ElaborateStatements.{stated, in_order, maybe, done_by, tested_by, past_counts, local_of, returned_by, all_stated, total, statement_by, declarations}
+use Rattle.bounds_plan.specs.laws.Laws.{most_bytes}
+use Rattle.bounds_plan.specs.meaning.Core.{Statement, Do, Break, Continue}
+use Rattle.bounds_plan.specs.elaboration.Types.{sort_of, size_in, number_in}
+use Rattle.bounds_plan.specs.elaboration.Source.{Meanings, Reached, Around, bind_at, past_declaration, local_number}
+use Rattle.bounds_plan.specs.elaboration.Expressions.{expression}
+use Rattle.bounds_plan.specs.elaboration.Initialisers.{initialiser}
+use Rattle.bounds_plan.specs.elaboration.Statements.{stated, in_order, maybe, done_by, tested_by, past_counts, local_of, returned_by, all_stated, total, statement_by, declarations}
 use Rattle.c_tree.proofs.Inductions.{StmtA, StmtB, bare_stmts, bare_stmts_struct, every_stmts, stmts_fused}
 use Rattle.c_check.specs.Standing.{structs_seen}
 use Rattle.c_accepted.specs.Alike.{meanings_of, signatures_seen, IsAt, Front}

@@ -17,9 +17,9 @@ use Rattle.c_check_statements.specs.Structs.{kinds_in, open_struct}
 use Rattle.c_check.specs.Standing.{structs_from, structs_seen, HoldsValues, IsLaid, AreLaid}
 use Rattle.c_check.proofs.Agreeing.{sizes_agree}
 use Rattle.c_check.proofs.Growing.{both_hold, same_value, value_of, there, times_of, sized_grows, within_grows, more_structs, closed_structs}
-use Rattle.bounds_plan.specs.Laws.{most_bytes}
-use Rattle.bounds_plan.specs.ElaborateTypes.{size_in}
-use Rattle.bounds_plan.specs.ElaboratePlaces.{offset_in, member_type}
+use Rattle.bounds_plan.specs.laws.Laws.{most_bytes}
+use Rattle.bounds_plan.specs.elaboration.Types.{size_in}
+use Rattle.bounds_plan.specs.elaboration.Places.{offset_in, member_type}
 use Rattle.c_accepted.proofs.Going.{begins_itself}
 use Rattle.c_accepted.proofs.Limits.{stay_small}
 use Rattle.accepted_trees.specs.Limits.{TypeWithin, TypesWithin, StructsWithin}

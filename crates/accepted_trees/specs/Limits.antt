@@ -5,11 +5,11 @@ use Rattle.std.specs.List.{AllByRecursion}
 use Rattle.c_types.specs.Types.{CType, Void, Int, Pointer, Array, Struct, StructType, members_of}
 use Rattle.c_check_rules.specs.Conversions.{is_scalar}
 use Rattle.fat_ir.specs.Step.{Located}
-use Rattle.bounds_plan.specs.Laws.{most_bytes}
-use Rattle.bounds_plan.specs.ElaborateTypes.{Sort, ANumber, APointer, AWhole, NoValue, sort_of, size_in}
-use Rattle.bounds_plan.specs.ElaborateSource.{Stand, SourceLayout, Meanings, Signature, Around}
-use Rattle.bounds_plan.specs.ElaboratePlaces.{offset_of, offset_in, member_type}
-use Rattle.bounds_plan.specs.ElaborateFunctions.{Defined, no_frame}
+use Rattle.bounds_plan.specs.laws.Laws.{most_bytes}
+use Rattle.bounds_plan.specs.elaboration.Types.{Sort, ANumber, APointer, AWhole, NoValue, sort_of, size_in}
+use Rattle.bounds_plan.specs.elaboration.Source.{Stand, SourceLayout, Meanings, Signature, Around}
+use Rattle.bounds_plan.specs.elaboration.Places.{offset_of, offset_in, member_type}
+use Rattle.bounds_plan.specs.elaboration.Functions.{Defined, no_frame}
 use Rattle.step_code.specs.Asked.{IsLow}
 use Rattle.asked_steps.specs.Trees.{FunctionWithin}
 

@@ -13,11 +13,11 @@ use Rattle.fat_ir.specs.Spans.{named, StandsAt, Range, Holds}
 use Rattle.step_code.specs.Asked.{FineStep, FineSteps, ArgsFineOf, ToFineOf, ToNamedOf}
 use Rattle.step_code.specs.Homes.{IsSlot, first_in, last_in}
 use Rattle.step_code.specs.Steps.{Plan}
-use Rattle.bounds_plan.specs.Laws.{times, JumpsTo}
-use Rattle.bounds_plan.specs.Sorts.{pairs_of, OfSome, NamesRight, AllNameRight, NumberIn, BoundsIn}
-use Rattle.bounds_plan.specs.Code.{fat_function, most_pairs}
-use Rattle.bounds_plan.specs.Compiled.{FitsFunction}
-use Rattle.bounds_plan.specs.Functions.{FunctionOfC}
+use Rattle.bounds_plan.specs.laws.Laws.{times, JumpsTo}
+use Rattle.bounds_plan.specs.steps.Sorts.{pairs_of, OfSome, NamesRight, AllNameRight, NumberIn, BoundsIn}
+use Rattle.bounds_plan.specs.steps.Code.{fat_function, most_pairs}
+use Rattle.bounds_plan.specs.steps.Compiled.{FitsFunction}
+use Rattle.bounds_plan.specs.meaning.Functions.{FunctionOfC}
 use Rattle.asked_steps.specs.Alone.{IsLimited, AllLimited}
 use Rattle.asked_steps.specs.Trees.{FunctionWithin}
 use Rattle.asked_steps.proofs.Limits.{function_limited}

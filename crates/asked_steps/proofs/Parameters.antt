@@ -3,9 +3,9 @@ use Rattle.std.proofs.Common.{◌≡◌, ℕ, zero, suc, ◌+◌, ◌<◌, ◌�
 use Rattle.std.specs.Prelude.{slice_index_or}
 use Rattle.std.proofs.lemmas.List.{length-append, append_assoc, get_or_append_left}
 use Rattle.std.proofs.Math.Seq.{get_or-append_seam}
-use Rattle.bounds_plan.specs.Code.{fat_function, fat_parameters, arrived, in_turn, most_pairs}
-use Rattle.bounds_plan.specs.Compiled.{ParametersStand, sorts_of}
-use Rattle.bounds_plan.specs.Functions.{FunctionOfC, Parameter, Private, Framed}
+use Rattle.bounds_plan.specs.steps.Code.{fat_function, fat_parameters, arrived, in_turn, most_pairs}
+use Rattle.bounds_plan.specs.steps.Compiled.{ParametersStand, sorts_of}
+use Rattle.bounds_plan.specs.meaning.Functions.{FunctionOfC, Parameter, Private, Framed}
 use Rattle.reg_assign.specs.Wishing.{WishesFor, AreWishes}
 use Rattle.asked_steps.specs.Wishes.{numbers_in, bounds_in, behind_two, parameters_wish}
 

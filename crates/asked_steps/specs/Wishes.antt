@@ -4,8 +4,8 @@ use Rattle.std.specs.Prelude.{ℕ, ◌+◌, Bool, true, false, if◌then◌else�
 use Rattle.fat_ir.specs.Functions.{Parameter}
 use Rattle.step_code.specs.Homing.{width_of}
 use Rattle.reg_assign.specs.declared.wishes.Wishes.{Wishes}
-use Rattle.bounds_plan.specs.Code.{fat_parameters}
-use Rattle.bounds_plan.specs.Functions.{FunctionOfC}
+use Rattle.bounds_plan.specs.steps.Code.{fat_parameters}
+use Rattle.bounds_plan.specs.meaning.Functions.{FunctionOfC}
 
 -- the values in which the arguments' numbers arrive, those of private parameters from `home` on, in order, and the others from `temp` on
 abbrev pub numbers_in : (home temp : ℕ) → List Parameter → List ℕ

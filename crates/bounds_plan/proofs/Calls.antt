@@ -15,14 +15,14 @@ use Rattle.fat_ir.specs.Run.{pass, and_then, followed, run_to}
 use Rattle.fat_ir.specs.Functions.{Target, OfC, Outside, unset as unset_value, values_at_entry, call_of as fat_call_of, symbols_of, calls as fat_calls, exited as fat_exited, program_run as fat_program_run, most_depth}
 use Rattle.fat_ir.specs.Laws.{passes_on as fat_passes_on}
 use Rattle.fat_ir.proofs.Lists.{pass-append, pass-over}
-use Rattle.bounds_plan.specs.State.{Passed, State, Ended, Done, Stopped, bind}
-use Rattle.bounds_plan.specs.Expressions.{Answer, Comes, Stops, CalleeOfC, Names}
-use Rattle.bounds_plan.specs.Statements.{statement}
-use Rattle.bounds_plan.specs.Functions.{FunctionOfC, arrive_all, state_at_entry, result_of, answer_of, body_run, turn_from, taking_turn, entering, returning, Linked, call_of, names_of, entered_at, calls, exited, program_run}
-use Rattle.bounds_plan.specs.Code.{code_of, arrivals, arrived, in_turn, most_pairs, fat_parameters, fat_function}
-use Rattle.bounds_plan.specs.Laws.{LeftByCalls, LeftOutside, NoMoreTurns, passes_on}
-use Rattle.bounds_plan.specs.Follows.{outcome_of, values_of, value_of, DoesSame, StandsSame}
-use Rattle.bounds_plan.specs.Compiled.{sorts_of, FitsFunction, function_run_by_steps, compiled, all_compiled, parameters_of, taken_by, FitsProgram, OutsideSame}
+use Rattle.bounds_plan.specs.meaning.State.{Passed, State, Ended, Done, Stopped, bind}
+use Rattle.bounds_plan.specs.meaning.Expressions.{Answer, Comes, Stops, CalleeOfC, Names}
+use Rattle.bounds_plan.specs.meaning.Statements.{statement}
+use Rattle.bounds_plan.specs.meaning.Functions.{FunctionOfC, arrive_all, state_at_entry, result_of, answer_of, body_run, turn_from, taking_turn, entering, returning, Linked, call_of, names_of, entered_at, calls, exited, program_run}
+use Rattle.bounds_plan.specs.steps.Code.{code_of, arrivals, arrived, in_turn, most_pairs, fat_parameters, fat_function}
+use Rattle.bounds_plan.specs.laws.Laws.{LeftByCalls, LeftOutside, NoMoreTurns, passes_on}
+use Rattle.bounds_plan.specs.steps.Follows.{outcome_of, values_of, value_of, DoesSame, StandsSame}
+use Rattle.bounds_plan.specs.steps.Compiled.{sorts_of, FitsFunction, function_run_by_steps, compiled, all_compiled, parameters_of, taken_by, FitsProgram, OutsideSame}
 use Rattle.bounds_plan.proofs.Worlds.{Fewer, fewer-calls, fewer-arrive}
 use Rattle.bounds_plan.proofs.Sim.{Agree, Sim, beside}
 use Rattle.bounds_plan.proofs.Effects.{Anything}

@@ -1,5 +1,5 @@
 -- The scalars of each struct that an elaborated function copies lie inside it.
-use Rattle.std.proofs.Common.{ℕ, zero, suc, ◌+◌, ◌==◌, Bool, true, false, List, [], ◌∷◌, ◌++◌, map, if◌then◌else◌}
+use Rattle.std.proofs.Common.{ℕ, zero, suc, ◌+◌, List, [], ◌∷◌, ◌++◌, map}
 use Rattle.std.specs.Prelude.{Option, None, Some}
 use Rattle.mx_base.specs.declared.numbers.IntKind.{IntKind}
 use Rattle.mx_base.specs.declared.places.Place.{Place}
@@ -10,6 +10,9 @@ use Rattle.c_tree.specs.declared.tree.Item.{Item}
 use Rattle.c_tree.specs.declared.tree.ItemKind.{ItemKind}
 use Rattle.c_tree.specs.declared.tree.ItemKind.TheVariants as k
 use Rattle.c_tree.specs.declared.tree.Expr.{Expr}
+use Rattle.mx_base.specs.declared.operators.Arithmetic.{Arithmetic}
+use Rattle.c_tree.specs.declared.operators.UnaryOp.{UnaryOp}
+use Rattle.c_tree.specs.declared.operators.UnaryOp.TheVariants as u
 use Rattle.c_tree.specs.declared.tree.ExprKind.{ExprKind-F}
 use Rattle.c_tree.specs.declared.tree.ExprKind.TheOpen as e
 use Rattle.c_tree.specs.declared.tree.Init.{Init}
@@ -20,19 +23,19 @@ use Rattle.c_tree.specs.declared.tree.StmtKind.{StmtKind-F}
 use Rattle.c_tree.specs.declared.tree.StmtKind.TheOpen as s
 use Rattle.c_types.specs.Types.{CType, Void, Int, Pointer, Array, Struct, StructType, members_of}
 use Rattle.c_types.specs.Layouts.{layout_of, offsets_from}
-use Rattle.bounds_plan.specs.Core.{Word, Null, Scalar, Effect}
-use Rattle.bounds_plan.specs.Laws.{AllInside, OfEffect, OfCopies}
-use Rattle.bounds_plan.specs.ElaborateScalars.{scalars_of, scalar_at}
-use Rattle.bounds_plan.specs.ElaborateTypes.{Value, Numeric, Address, pointer_in, Sort, ANumber, APointer, AWhole, NoValue, sort_of, kind_of, size_in, given}
+use Rattle.bounds_plan.specs.meaning.Core.{Word, Null, Scalar, Effect}
+use Rattle.bounds_plan.specs.laws.Laws.{AllInside, OfEffect, OfCopies}
+use Rattle.bounds_plan.specs.elaboration.Scalars.{scalars_of, scalar_at}
+use Rattle.bounds_plan.specs.elaboration.Types.{Value, Numeric, Address, Sort, ANumber, APointer, AWhole, NoValue, sort_of, kind_of, size_in, given}
 use Rattle.c_check_rules.specs.declared.predeclared.Bind.{Bind}
 use Rattle.c_check_rules.specs.declared.predeclared.Bind.TheVariants.{Global, Local, Fun, Service, Builtin}
-use Rattle.bounds_plan.specs.ElaborateSource.{Meanings, SourceLayout, Reached, Signature, Around, kind_at, bind_at, local_number}
-use Rattle.bounds_plan.specs.ElaboratePlaces.{Lvalue, InMemory, address_in, read_as, written_as}
-use Rattle.bounds_plan.specs.ElaborateExpressions.{Found, Reading, effect_of, no_place, a_place, named, negative, inverse, is_zero, unary, assigned, assignment_effect, assign_by, step, expression}
-use Rattle.bounds_plan.specs.ElaborateInitialisers.{Filling, part_at, zero_as, zero_written, zeros, member_zeros, text_filled, bytes_of, one_filled, elements_filled, members_filled, many_filled, init_step, initialiser}
-use Rattle.bounds_plan.specs.ElaborateStatements.{Stating, in_order, done_by, tested_by, maybe, local_of, declared, declarations, return_of, returned_by, all_stated, past_counts, stmt_step, statement_by}
-use Rattle.bounds_plan.specs.ElaborateFunctions.{Defined, Gone, Body, body_by, with_known, after_item, after_items, at_start, gone_by, elaborated}
-use Rattle.bounds_plan.specs.ElaborateLaws.{AllCopyInside}
+use Rattle.bounds_plan.specs.elaboration.Source.{Meanings, SourceLayout, Reached, Signature, Around, kind_at, bind_at, local_number}
+use Rattle.bounds_plan.specs.elaboration.Places.{Lvalue, read_as, written_as}
+use Rattle.bounds_plan.specs.elaboration.Expressions.{Found, Reading, effect_of, no_place, a_place, named, unary, assigned, assignment_effect, assign_by, step, expression}
+use Rattle.bounds_plan.specs.elaboration.Initialisers.{Filling, part_at, zero_as, zero_written, zeros, member_zeros, text_filled, bytes_of, one_filled, elements_filled, members_filled, many_filled, init_step, initialiser}
+use Rattle.bounds_plan.specs.elaboration.Statements.{Stating, in_order, done_by, tested_by, maybe, local_of, declared, declarations, return_of, returned_by, all_stated, past_counts, stmt_step, statement_by}
+use Rattle.bounds_plan.specs.elaboration.Functions.{Defined, Gone, Body, body_by, with_known, after_item, after_items, at_start, gone_by, elaborated}
+use Rattle.bounds_plan.specs.elaboration.Laws.{AllCopyInside}
 use Rattle.bounds_plan.proofs.Inside.{scalars_inside}
 use Rattle.c_tree.proofs.Inductions.{ExprA, ExprB, bare_exprs, every_exprs, InitA, InitB, bare_inits, every_inits, StmtA, StmtB, bare_stmts, every_stmts}
 
@@ -57,20 +60,19 @@ no_place_whole type v place after = record { is = value_copies v }
 a_place_whole : (type : CType) (l : Lvalue) (place : Place) (after : Reached) → Whole (a_place type l place after)
 a_place_whole type l place after = record { is = value_copies (read_as (sort_of type) place l) }
 
-either_whole : (b : Bool) (f g : Found) → Whole f → Whole g → Whole (if b then f else g)
-either_whole true f g h k = h
-either_whole false f g h k = k
-
 named_whole : (around : Around) (type : CType) (m : Bind) (place : Place) (after : Reached) → Whole (named around type m place after)
 named_whole around type (Global number) place after = a_place_whole type _ place after
 named_whole around type (Local number) place after = a_place_whole type _ place after
 named_whole around type (Fun number) place after = no_place_whole type _ place after
-named_whole around type (Service number) place after = no_place_whole type _ place after
-named_whole around type (Builtin number) place after = no_place_whole type _ place after
+named_whole around type (Service service) place after = no_place_whole type _ place after
+named_whole around type (Builtin builtin) place after = no_place_whole type _ place after
 
-unary_whole : (op : ℕ) (type : CType) (a : Found) (place : Place) (after : Reached) → Whole (unary op type a place after)
-unary_whole op type a place after = either_whole (op == 0) _ _ (no_place_whole type (Numeric (negative a)) place after) (either_whole (op == 1) _ _ (no_place_whole type (Numeric (inverse a)) place after)
-    (either_whole (op == 2) _ _ (no_place_whole type (Numeric (is_zero a)) place after) (either_whole (op == 3) _ _ (a_place_whole type (InMemory (pointer_in a.value)) place after) (no_place_whole type (Address (address_in a.lvalue)) place after))))
+unary_whole : (op : UnaryOp) (type : CType) (a : Found) (place : Place) (after : Reached) → Whole (unary op type a place after)
+unary_whole u.Neg type a place after = no_place_whole type _ place after
+unary_whole u.BitNot type a place after = no_place_whole type _ place after
+unary_whole u.Not type a place after = no_place_whole type _ place after
+unary_whole u.Deref type a place after = a_place_whole type _ place after
+unary_whole u.AddressOf type a place after = no_place_whole type _ place after
 
 assignment_copies : (sort : Sort) (structs : List StructType) (a b : Found) → OfEffect AllInside (assignment_effect sort structs a b)
 assignment_copies (ANumber kind) structs a b = value_copies (assigned a b)
@@ -78,7 +80,7 @@ assignment_copies APointer structs a b = value_copies (assigned a b)
 assignment_copies AWhole structs a b = scalars_inside structs a.type
 assignment_copies NoValue structs a b = value_copies (assigned a b)
 
-assign_whole : (op : Option ℕ) (around : Around) (a b : Found) (place : Place) (after : Reached) → Whole (assign_by op around a b place after)
+assign_whole : (op : Option Arithmetic) (around : Around) (a b : Found) (place : Place) (after : Reached) → Whole (assign_by op around a b place after)
 assign_whole None around a b place after = record { is = assignment_copies (sort_of a.type) around.structs a b }
 assign_whole (Some op) around a b place after = no_place_whole a.type _ place after
 

@@ -4,8 +4,8 @@ use Rattle.std.specs.Prelude.{slice_index_or, length}
 use Rattle.std.specs.List.{All}
 use Rattle.std.proofs.lemmas.Bool.Decides.{nat_tests}
 use Rattle.fat_ir.specs.Spans.{Rising}
-use Rattle.bounds_plan.specs.Code.{in_turn}
-use Rattle.bounds_plan.specs.Sorts.{same_sort, how_many}
+use Rattle.bounds_plan.specs.steps.Code.{in_turn}
+use Rattle.bounds_plan.specs.steps.Sorts.{same_sort, how_many}
 
 -- the weights of k values from l on
 abbrev pub weights : (ℕ → ℕ) → (l k : ℕ) → ℕ

@@ -13,13 +13,13 @@ use Rattle.fat_ir.specs.declared.step.FatStep.TheVariants as s
 use Rattle.fat_ir.specs.Values.{Number, Pair}
 use Rattle.fat_ir.specs.Step.{Symbols, State as T, Next, Reached, On, Over, with_number, with_world, number_loaded, number_stored, pointer_came, pointer_went}
 use Rattle.fat_ir.specs.Run.{pass, and_then}
-use Rattle.bounds_plan.specs.Core.{PointerExpr, Scalar, Effect, Nothing, OfNumber as ForNumber, OfPointer as ForPointer, CopyStruct}
-use Rattle.bounds_plan.specs.State.{Pointer, State, Ended, Done, Stopped, M, bind, ◌>>=◌, ◌>>◌}
-use Rattle.bounds_plan.specs.Accesses.{access, judge, allow, read_number as source_read, write_number as source_write, read_pointer, write_pointer}
-use Rattle.bounds_plan.specs.Expressions.{Names}
-use Rattle.bounds_plan.specs.Statements.{part, copy_scalar, copy_scalars, effect}
-use Rattle.bounds_plan.specs.Code.{copied, copied_all, labels_ptr, code_ptr, code_effect}
-use Rattle.bounds_plan.specs.Follows.{FitsEffect, DoesSame}
+use Rattle.bounds_plan.specs.meaning.Core.{PointerExpr, Scalar, Effect, Nothing, OfNumber as ForNumber, OfPointer as ForPointer, CopyStruct}
+use Rattle.bounds_plan.specs.meaning.State.{Pointer, State, Ended, Done, Stopped, M, bind, ◌>>=◌, ◌>>◌}
+use Rattle.bounds_plan.specs.meaning.Accesses.{access, judge, allow, read_number as source_read, write_number as source_write, read_pointer, write_pointer}
+use Rattle.bounds_plan.specs.meaning.Expressions.{Names}
+use Rattle.bounds_plan.specs.meaning.Statements.{part, copy_scalar, copy_scalars, effect}
+use Rattle.bounds_plan.specs.steps.Code.{copied, copied_all, labels_ptr, code_ptr, code_effect}
+use Rattle.bounds_plan.specs.steps.Follows.{FitsEffect, DoesSame}
 use Rattle.bounds_plan.proofs.Words.{word-word}
 use Rattle.bounds_plan.proofs.Sim.{here, read_number, read_bounds, Agree, Sim, beside, NumberIn, PointerIn, agree_on, and_on, on_step, judge_follows, allow_follows}
 use Rattle.bounds_plan.proofs.Exprs.{runs, runs_ptr}

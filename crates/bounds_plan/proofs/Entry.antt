@@ -12,13 +12,13 @@ use Rattle.fat_ir.specs.Step.{Symbols, State as T, Next, Reached, with_number, w
 use Rattle.fat_ir.specs.Run.{pass, and_then}
 use Rattle.fat_ir.specs.Functions.{arrived_in}
 use Rattle.fat_ir.specs.Laws.{LacksLabel}
-use Rattle.bounds_plan.specs.State.{Pointer, Passed, OfNumber, OfPointer, Ended, Done, Stopped, M, bind, ◌>>◌, stored, with_cause, place_of}
-use Rattle.bounds_plan.specs.Accesses.{allow, access, write_number, went, write_pointer}
-use Rattle.bounds_plan.specs.Expressions.{number_passed}
-use Rattle.bounds_plan.specs.Functions.{Parameter, Private, Framed, arrive_all}
-use Rattle.bounds_plan.specs.Code.{arrivals, arrived, fat_parameters}
-use Rattle.bounds_plan.specs.Follows.{value_of, values_of}
-use Rattle.bounds_plan.specs.Compiled.{ParametersStand}
+use Rattle.bounds_plan.specs.meaning.State.{Pointer, Passed, OfNumber, OfPointer, Ended, Done, Stopped, M, bind, ◌>>◌, stored, with_cause, place_of}
+use Rattle.bounds_plan.specs.meaning.Accesses.{allow, access, write_number, went, write_pointer}
+use Rattle.bounds_plan.specs.meaning.Expressions.{number_passed}
+use Rattle.bounds_plan.specs.meaning.Functions.{Parameter, Private, Framed, arrive_all}
+use Rattle.bounds_plan.specs.steps.Code.{arrivals, arrived, fat_parameters}
+use Rattle.bounds_plan.specs.steps.Follows.{value_of, values_of}
+use Rattle.bounds_plan.specs.steps.Compiled.{ParametersStand}
 use Rattle.bounds_plan.proofs.Sim.{here, there, read_number, read_bounds, Agree, Sim, beside, agree_on, on_step, allow_follows}
 use Rattle.bounds_plan.proofs.Pieces.{agree_set, agree_set_pair, under}
 use Rattle.bounds_plan.proofs.Effects.{Anything}

@@ -13,12 +13,12 @@ use Rattle.fat_ir.specs.Values.{Number, Pair}
 use Rattle.fat_ir.specs.Step.{Located, pointer_into, Symbols, Next, Reached, On, with_number, with_pair, with_pointer, with_world, came_back, served_in_c, pointer_came, number_loaded}
 use Rattle.fat_ir.specs.Run.{pass, and_then}
 use Rattle.bounds_plan.proofs.Fresh.{fresh, fresh_ptr}
-use Rattle.bounds_plan.specs.Core.{NumberExpr, Word, Variable, Assign, Operate, Compare, Convert, AsNumber, Load, Store, Update, UpdateAt, And, Or, Choose, Call, Serve, Ask, PointerExpr, Null, FromInteger, Function, Object, InFrame, VariablePtr, AssignPtr, Member, Element, ElementAfter, LoadPtr, StorePtr, Advance, AdvanceAt, ChoosePtr, CallPtr, Alloc, SetBounds, NarrowBounds, CopyBounds, InitBounds, BoundOf, Arguments, NoMore, WithNumber, WithPointer}
-use Rattle.bounds_plan.specs.State.{Pointer, OfNumber, OfPointer, Done, M, bind, ◌>>=◌, ◌>>◌, pure, set_variable, with_cause, with_made, place_of}
-use Rattle.bounds_plan.specs.Accesses.{load_ptr, store_ptr, read_number as source_read, read_pointer, allow}
-use Rattle.bounds_plan.specs.Expressions.{Names, number, pointer, arguments, operate, object, either, block, calling, number_passed, pointer_passed, step}
-use Rattle.bounds_plan.specs.Code.{plus_or_minus, before_or_after, arguments_at, labels, labels_ptr, code, code_ptr, codes}
-use Rattle.bounds_plan.specs.Follows.{Fits, FitsPtr, FitsAll, DoesSame}
+use Rattle.bounds_plan.specs.meaning.Core.{NumberExpr, Word, Variable, Assign, Operate, Compare, Convert, AsNumber, Load, Store, Update, UpdateAt, And, Or, Choose, Call, Serve, Ask, PointerExpr, Null, FromInteger, Function, Object, InFrame, VariablePtr, AssignPtr, Member, Element, ElementAfter, LoadPtr, StorePtr, Advance, AdvanceAt, ChoosePtr, CallPtr, Alloc, SetBounds, NarrowBounds, CopyBounds, InitBounds, BoundOf, Arguments, NoMore, WithNumber, WithPointer}
+use Rattle.bounds_plan.specs.meaning.State.{Pointer, OfNumber, OfPointer, Done, M, bind, ◌>>=◌, ◌>>◌, pure, set_variable, with_cause, with_made, place_of}
+use Rattle.bounds_plan.specs.meaning.Accesses.{load_ptr, store_ptr, read_number as source_read, read_pointer, allow}
+use Rattle.bounds_plan.specs.meaning.Expressions.{Names, number, pointer, arguments, operate, object, either, block, calling, number_passed, pointer_passed, step}
+use Rattle.bounds_plan.specs.steps.Code.{plus_or_minus, before_or_after, arguments_at, labels, labels_ptr, code, code_ptr, codes}
+use Rattle.bounds_plan.specs.steps.Follows.{Fits, FitsPtr, FitsAll, DoesSame}
 use Rattle.bounds_plan.proofs.Sim.{here, there, read_number, read_bounds, read_held_number, read_held_pair, beside, NumberIn, PointerIn, agree_on, stay_on, RunsTo, and_on, on_step, judge_follows, allow_follows}
 use Rattle.bounds_plan.proofs.Pieces.{SimN, SimP, finish_number, kept_number, kept_pair, stay_join, home_number, home_pair, finish_pair, finish_pointer, finish_came, Same, stores_number, stores_pointer, same_stay, of_same, full_at_0, finish_front, finish_full, finish_object, weaken, chooses, made_of, finish_operated, under, over, finish_set, operate_follows, both, one_of, finish_served, serves, finish_block, finish_update, scale_follows, finish_member, finish_element, finish_element_after, update_at, advance_at, advance, finish_set_ptr, ArgumentsIn, read_none, read_one, read_two, reads, came_number, came_pointer}
 

@@ -11,15 +11,15 @@ use Rattle.c_tree.specs.declared.tree.Decl.{Decl}
 use Rattle.c_tree.specs.declared.tree.Expr.{Expr}
 use Rattle.c_tree.specs.declared.tree.Stmt.{Stmt}
 use Rattle.c_types.specs.Types.{CType}
-use Rattle.bounds_plan.specs.Sorts.{how_many}
-use Rattle.bounds_plan.specs.ElaborateTypes.{Sort, ANumber, APointer, AWhole, NoValue, sort_of}
-use Rattle.bounds_plan.specs.ElaborateSource.{Stand, Private, Frame, Meanings, SourceLayout, Reached, Signature, Around, past_declaration, declared_at, bind_at, function_number}
-use Rattle.bounds_plan.specs.ElaboratePlaces.{private_values_of, private_values}
-use Rattle.bounds_plan.specs.ElaborateExpressions.{Reading, expression}
-use Rattle.bounds_plan.specs.ElaborateInitialisers.{initialiser}
-use Rattle.bounds_plan.specs.ElaborateStatements.{past_counts, maybe, declarations, statement_by}
-use Rattle.bounds_plan.specs.ElaborateFunctions.{Defined, Gone, Body, no_frame, parameters_from, declared_all, body_by, with_body, with_known, after_item, after_items, at_start, gone_by, elaborated, signatures_of}
-use Rattle.bounds_plan.specs.ElaborateLaws.{HaveFewParameters, TakesFew, AllTakeFew, is_private, privates_in, HaveFewPrivates, HaveFewVariables}
+use Rattle.bounds_plan.specs.steps.Sorts.{how_many}
+use Rattle.bounds_plan.specs.elaboration.Types.{Sort, ANumber, APointer, AWhole, NoValue, sort_of}
+use Rattle.bounds_plan.specs.elaboration.Source.{Stand, Private, Frame, Meanings, SourceLayout, Reached, Signature, Around, past_declaration, declared_at, bind_at, function_number}
+use Rattle.bounds_plan.specs.elaboration.Places.{private_values_of, private_values}
+use Rattle.bounds_plan.specs.elaboration.Expressions.{Reading, expression}
+use Rattle.bounds_plan.specs.elaboration.Initialisers.{initialiser}
+use Rattle.bounds_plan.specs.elaboration.Statements.{past_counts, maybe, declarations, statement_by}
+use Rattle.bounds_plan.specs.elaboration.Functions.{Defined, Gone, Body, no_frame, parameters_from, declared_all, body_by, with_body, with_known, after_item, after_items, at_start, gone_by, elaborated, signatures_of}
+use Rattle.bounds_plan.specs.elaboration.Laws.{HaveFewParameters, TakesFew, AllTakeFew, is_private, privates_in, HaveFewPrivates, HaveFewVariables}
 
 -- ---- one function
 

@@ -1,5 +1,5 @@
 -- What a source is elaborated to names private values of the right sort and gives each call as many arguments as its symbol takes.
-use Rattle.std.proofs.Common.{◌≡◌, ℕ, zero, suc, ◌==◌, not, Bool, true, false, refl, List, [], ◌∷◌, map, length, if◌then◌else◌, ap, sym, ◌∙◌}
+use Rattle.std.proofs.Common.{◌≡◌, ℕ, zero, suc, not, Bool, true, false, refl, List, [], ◌∷◌, map, length, if◌then◌else◌, ap, sym, ◌∙◌}
 use Rattle.std.specs.Prelude.{Option, None, Some, slice_get}
 use Rattle.mx_base.specs.declared.numbers.IntKind.{IntKind}
 use Rattle.mx_base.specs.declared.numbers.IntKind.TheVariants.{I32, I64, U64}
@@ -7,21 +7,30 @@ use Rattle.mx_base.specs.declared.places.Place.{Place}
 use Rattle.mx_base.specs.declared.operators.Arithmetic.{Arithmetic}
 use Rattle.mx_base.specs.declared.operators.Arithmetic.TheVariants.{Mul, Div, Rem, Add, Sub, Shl, Shr, BitAnd, BitXor, BitOr}
 use Rattle.mx_base.specs.declared.operators.Comparison.{Comparison}
-use Rattle.mx_base.specs.Operators.{arithmetic_at, comparison_at}
+use Rattle.mx_base.specs.declared.services.CService.{CService}
+use Rattle.mx_base.specs.declared.services.CService.TheVariants as in_c
 use Rattle.narrowing.specs.declared.member.Rule.{Rule}
 use Rattle.narrowing.specs.declared.member.Rule.TheVariants.{Keep, Meet}
+use Rattle.c_tree.specs.declared.operators.UnaryOp.{UnaryOp}
+use Rattle.c_tree.specs.declared.operators.UnaryOp.TheVariants as u
+use Rattle.c_tree.specs.declared.operators.Logical.{Logical}
+use Rattle.c_tree.specs.declared.operators.Logical.TheVariants as l
+use Rattle.c_tree.specs.declared.operators.BinaryOp.{BinaryOp}
+use Rattle.c_tree.specs.declared.operators.BinaryOp.TheVariants as o
 use Rattle.c_tree.specs.declared.tree.ExprKind.{ExprKind-F}
 use Rattle.c_tree.specs.declared.tree.ExprKind.TheOpen as e
 use Rattle.c_tree.specs.declared.tree.Expr.{Expr}
 use Rattle.c_types.specs.Types.{CType, Void, StructType}
-use Rattle.bounds_plan.specs.Core.{NumberExpr, Word, Convert, PointerExpr, Arguments}
-use Rattle.bounds_plan.specs.Follows.{count, IsNumber, IsPointer, Fits, FitsPtr, FitsAll, FitsEffect}
-use Rattle.bounds_plan.specs.ElaborateTypes.{Value, Numeric, Address, number_in, pointer_in, Sort, ANumber, APointer, AWhole, NoValue, sort_of, kind_of, step_in, promoted, common, done_in, keeps, converted, right_operand, wanted_pointer, given_as, given, cast_as}
+use Rattle.bounds_plan.specs.meaning.Core.{NumberExpr, Word, Convert, PointerExpr, Arguments}
+use Rattle.bounds_plan.specs.steps.Follows.{count, IsNumber, IsPointer, Fits, FitsPtr, FitsAll, FitsEffect}
+use Rattle.bounds_plan.specs.elaboration.Types.{Value, Numeric, Address, number_in, pointer_in, Sort, ANumber, APointer, AWhole, NoValue, sort_of, kind_of, step_in, promoted, common, done_in, keeps, converted, right_operand, wanted_pointer, given_as, given, cast_as}
 use Rattle.c_check_rules.specs.declared.predeclared.Bind.{Bind}
-use Rattle.c_check_rules.specs.declared.predeclared.Bind.TheVariants.{Global, Local, Fun, Service, Builtin}
-use Rattle.bounds_plan.specs.ElaborateSource.{Reached, Signature, Around, kind_at, bind_at}
-use Rattle.bounds_plan.specs.ElaboratePlaces.{Lvalue, NumberVariable, PointerVariable, InMemory, address_in, loaded_as, read_as, stored_as, written_as, changed_at, changed_as, variable_of, under_rule}
-use Rattle.bounds_plan.specs.ElaborateExpressions.{Found, Reading, effect_of, no_place, a_place, symbol_of, named, promoted_number, negative, inverse, is_zero, unary, calculated, arithmetic, compared, binary_as, binary, chosen_as, assigned, struct_copied, assignment_effect, compound_at, changed, assign_by, stepped_by, find_all, with_argument, arguments_for, called_as, argument_at, number_of_argument, pointer_of_argument, served, built_in, function_called, called, member, arrow, index_rule, index, step, expression}
+use Rattle.c_check_rules.specs.declared.predeclared.Bind.TheVariants.{Global, Local, Fun, Service, Builtin as OfBounds}
+use Rattle.c_check_rules.specs.declared.predeclared.Builtin.{Builtin}
+use Rattle.c_check_rules.specs.declared.predeclared.Builtin.TheVariants as on_bounds
+use Rattle.bounds_plan.specs.elaboration.Source.{Reached, Signature, Around, kind_at, bind_at}
+use Rattle.bounds_plan.specs.elaboration.Places.{Lvalue, NumberVariable, PointerVariable, InMemory, address_in, loaded_as, read_as, stored_as, written_as, changed_at, changed_as, variable_of, under_rule}
+use Rattle.bounds_plan.specs.elaboration.Expressions.{Found, Reading, effect_of, no_place, a_place, symbol_of, named, promoted_number, negative, inverse, is_zero, unary, calculated, arithmetic, compared, logical, binary, chosen_as, assigned, struct_copied, assignment_effect, changed, assign_by, stepped_by, find_all, with_argument, arguments_for, called_as, argument_at, number_of_argument, pointer_of_argument, served, built_in, function_called, called, member, arrow, index_rule, index, step, expression}
 use Rattle.c_tree.proofs.Inductions.{ExprA, ExprB, bare_exprs, every_exprs}
 
 module _ (private : ℕ) (is_bounds : ℕ → Bool) (takes : ℕ → ℕ) where
@@ -151,24 +160,20 @@ module _ (private : ℕ) (is_bounds : ℕ → Bool) (takes : ℕ → ℕ) where
   named_fits around ready type (Global number) place after = a_place_fits type _ place after tt
   named_fits around ready type (Local number) place after = a_place_fits type (variable_of around.structs around.variables around.stands 0 number) place after (ready.variables number)
   named_fits around ready type (Fun number) place after = no_place_fits type _ place after tt
-  named_fits around ready type (Service number) place after = no_place_fits type _ place after tt
-  named_fits around ready type (Builtin number) place after = no_place_fits type _ place after tt
-
-  either_fits : (b : Bool) (f g : Found) → FitsFound f → FitsFound g → FitsFound (if b then f else g)
-  either_fits true f g h k = h
-  either_fits false f g h k = k
+  named_fits around ready type (Service service) place after = no_place_fits type _ place after tt
+  named_fits around ready type (OfBounds builtin) place after = no_place_fits type _ place after tt
 
   -- ---- operators
 
   promoted_fits : (a : Found) → FitsFound a → Fits private is_bounds takes (promoted_number a)
   promoted_fits a h = converted_fits (kind_of a.type) (promoted (kind_of a.type)) (number_in a.value) (number_fits a.value h.value)
 
-  unary_fits : (op : ℕ) (type : CType) (a : Found) (place : Place) (after : Reached) → FitsFound a → FitsFound (unary op type a place after)
-  unary_fits op type a place after h = either_fits (op == 0) _ _ (no_place_fits type (Numeric (negative a)) place after (promoted_fits a h, tt))
-      (either_fits (op == 1) _ _ (no_place_fits type (Numeric (inverse a)) place after (promoted_fits a h, tt))
-      (either_fits (op == 2) _ _ (no_place_fits type (Numeric (is_zero a)) place after (number_fits a.value h.value, tt))
-      (either_fits (op == 3) _ _ (a_place_fits type (InMemory (pointer_in a.value)) place after (pointer_fits a.value h.value))
-      (no_place_fits type (Address (address_in a.lvalue)) place after (address_fits a.lvalue h.lvalue)))))
+  unary_fits : (op : UnaryOp) (type : CType) (a : Found) (place : Place) (after : Reached) → FitsFound a → FitsFound (unary op type a place after)
+  unary_fits u.Neg type a place after h = no_place_fits type (Numeric (negative a)) place after (promoted_fits a h, tt)
+  unary_fits u.BitNot type a place after h = no_place_fits type (Numeric (inverse a)) place after (promoted_fits a h, tt)
+  unary_fits u.Not type a place after h = no_place_fits type (Numeric (is_zero a)) place after (number_fits a.value h.value, tt)
+  unary_fits u.Deref type a place after h = a_place_fits type (InMemory (pointer_in a.value)) place after (pointer_fits a.value h.value)
+  unary_fits u.AddressOf type a place after h = no_place_fits type (Address (address_in a.lvalue)) place after (address_fits a.lvalue h.lvalue)
 
   calculated_fits : (op : Arithmetic) (ka kb : IntKind) (a b : NumberExpr) → Fits private is_bounds takes a → Fits private is_bounds takes b → Fits private is_bounds takes (calculated op ka kb a b)
   calculated_fits op ka kb a b h k = (converted_fits ka (done_in op ka kb) a h, right_fits op kb (done_in op ka kb) b k)
@@ -185,14 +190,14 @@ module _ (private : ℕ) (is_bounds : ℕ → Bool) (takes : ℕ → ℕ) where
   compared_fits op ka kb (Numeric a) (Address q) h k = (h, k)
   compared_fits op ka kb (Address p) (Address q) h k = (h, k)
 
-  either_number : (b : Bool) (x y : NumberExpr) → Fits private is_bounds takes x → Fits private is_bounds takes y → Fits private is_bounds takes (if b then x else y)
-  either_number true x y h k = h
-  either_number false x y h k = k
+  logical_fits : (op : Logical) (a b : NumberExpr) → Fits private is_bounds takes a → Fits private is_bounds takes b → Fits private is_bounds takes (logical op a b)
+  logical_fits l.And a b h k = (h, k)
+  logical_fits l.Or a b h k = (h, k)
 
-  binary_as_fits : (o : Option Arithmetic) (c : Option Comparison) (n : ℕ) (around : Around) (a b : Found) → FitsFound a → FitsFound b → FitsValue (binary_as o c n around a b)
-  binary_as_fits (Some op) c n around a b h k = arithmetic_fits around.structs op a.type b.type a.value b.value h.value k.value
-  binary_as_fits None (Some op) n around a b h k = compared_fits op (kind_of a.type) (kind_of b.type) a.value b.value h.value k.value
-  binary_as_fits None None n around a b h k = either_number (n == 16) _ _ (number_fits a.value h.value, number_fits b.value k.value) (number_fits a.value h.value, number_fits b.value k.value)
+  binary_fits : (op : BinaryOp) (around : Around) (a b : Found) → FitsFound a → FitsFound b → FitsValue (binary op around a b)
+  binary_fits (o.Arithmetic op) around a b h k = arithmetic_fits around.structs op a.type b.type a.value b.value h.value k.value
+  binary_fits (o.Comparison op) around a b h k = compared_fits op (kind_of a.type) (kind_of b.type) a.value b.value h.value k.value
+  binary_fits (o.Logical op) around a b h k = logical_fits op _ _ (number_fits a.value h.value) (number_fits b.value k.value)
 
   chosen_fits : (sort : Sort) (c a b : Found) → FitsFound c → FitsFound a → FitsFound b → FitsValue (chosen_as sort c a b)
   chosen_fits (ANumber kind) c a b h k l = (number_fits c.value h.value, converted_fits (kind_of a.type) kind (number_in a.value) (number_fits a.value k.value), converted_fits (kind_of b.type) kind (number_in b.value) (number_fits b.value l.value))
@@ -217,10 +222,10 @@ module _ (private : ℕ) (is_bounds : ℕ → Bool) (takes : ℕ → ℕ) where
   changed_fits : (structs : List StructType) (op : Arithmetic) (a : Found) (from : IntKind) (e : NumberExpr) (old : Bool) → FitsFound a → Fits private is_bounds takes e → FitsValue (changed structs op a from e old)
   changed_fits structs op a from e old h k = changed_as_fits (kind_of a.type) (sort_of a.type) a.place a.lvalue op from (step_in structs a.type) e old h.lvalue k
 
-  assign_fits : (op : Option ℕ) (around : Around) (a b : Found) (place : Place) (after : Reached) → FitsFound a → FitsFound b → FitsFound (assign_by op around a b place after)
+  assign_fits : (op : Option Arithmetic) (around : Around) (a b : Found) (place : Place) (after : Reached) → FitsFound a → FitsFound b → FitsFound (assign_by op around a b place after)
   assign_fits None around a b place after h k = record { value = assigned_fits a b h k; lvalue = pointer_fits (assigned a b) (assigned_fits a b h k); effect = assignment_effect_fits (sort_of a.type) around.structs a b h k }
-  assign_fits (Some op) around a b place after h k = no_place_fits a.type (changed around.structs (compound_at op) a (kind_of b.type) (number_in b.value) false) place after
-      (changed_fits around.structs (compound_at op) a (kind_of b.type) (number_in b.value) false h (number_fits b.value k.value))
+  assign_fits (Some op) around a b place after h k = no_place_fits a.type (changed around.structs op a (kind_of b.type) (number_in b.value) false) place after
+      (changed_fits around.structs op a (kind_of b.type) (number_in b.value) false h (number_fits b.value k.value))
 
   stepped_fits : (around : Around) (up before : Bool) (a : Found) (place : Place) (after : Reached) → FitsFound a → FitsFound (stepped_by around up before a place after)
   stepped_fits around up before a place after h = no_place_fits a.type _ place after (changed_fits around.structs (if up then Add else Sub) a I32 (Word 1) (not before) h tt)
@@ -278,28 +283,26 @@ module _ (private : ℕ) (is_bounds : ℕ → Bool) (takes : ℕ → ℕ) where
   pointer_argument_fits : (n : ℕ) (all : List Found) → AllFound_fit all → FitsPtr private is_bounds takes (pointer_of_argument n all)
   pointer_argument_fits n all h = wanted_fits (argument_at n all).value (argument_fits n all h).value
 
-  either_value : (b : Bool) (x y : Value) → FitsValue x → FitsValue y → FitsValue (if b then x else y)
-  either_value true x y h k = h
-  either_value false x y h k = k
+  served_fits : (service : CService) (all : List Found) → AllFound_fit all → FitsValue (served service all)
+  served_fits in_c.Print all h = number_argument_fits I64 0 all h
+  served_fits in_c.Put all h = number_argument_fits I32 0 all h
+  served_fits in_c.Get all h = tt
+  served_fits in_c.Alloc all h = number_argument_fits U64 0 all h
+  served_fits in_c.Free all h = pointer_argument_fits 0 all h
+  served_fits in_c.Exit all h = number_argument_fits I32 0 all h
 
-  either_pointer : (b : Bool) (x y : PointerExpr) → FitsPtr private is_bounds takes x → FitsPtr private is_bounds takes y → FitsPtr private is_bounds takes (if b then x else y)
-  either_pointer true x y h k = h
-  either_pointer false x y h k = k
-
-  served_fits : (number : ℕ) (all : List Found) → AllFound_fit all → FitsValue (served number all)
-  served_fits number all h = either_value (number == 0) _ _ (number_argument_fits I64 0 all h) (either_value (number == 1) _ _ (number_argument_fits I32 0 all h)
-      (either_value (number == 2) _ _ tt (either_value (number == 3) _ _ (number_argument_fits U64 0 all h) (either_value (number == 4) _ _ (pointer_argument_fits 0 all h) (number_argument_fits I32 0 all h)))))
-
-  built_in_fits : (number : ℕ) (all : List Found) → AllFound_fit all → FitsPtr private is_bounds takes (built_in number all)
-  built_in_fits number all h = either_pointer (number == 0) _ _ (pointer_argument_fits 0 all h, number_argument_fits U64 1 all h)
-      (either_pointer (number == 1) _ _ (pointer_argument_fits 0 all h, pointer_argument_fits 1 all h, number_argument_fits U64 2 all h)
-      (either_pointer (number == 2) _ _ (pointer_argument_fits 0 all h, pointer_argument_fits 1 all h) (either_pointer (number == 3) _ _ (pointer_argument_fits 0 all h)
-      (either_pointer (number == 4) _ _ (pointer_argument_fits 0 all h) (pointer_argument_fits 0 all h)))))
+  built_in_fits : (builtin : Builtin) (all : List Found) → AllFound_fit all → FitsPtr private is_bounds takes (built_in builtin all)
+  built_in_fits on_bounds.SetBounds all h = (pointer_argument_fits 0 all h, number_argument_fits U64 1 all h)
+  built_in_fits on_bounds.NarrowBounds all h = (pointer_argument_fits 0 all h, pointer_argument_fits 1 all h, number_argument_fits U64 2 all h)
+  built_in_fits on_bounds.CopyBounds all h = (pointer_argument_fits 0 all h, pointer_argument_fits 1 all h)
+  built_in_fits on_bounds.InitBounds all h = pointer_argument_fits 0 all h
+  built_in_fits on_bounds.LowerBound all h = pointer_argument_fits 0 all h
+  built_in_fits on_bounds.UpperBound all h = pointer_argument_fits 0 all h
 
   called_fits : (around : Around) → Ready around → (type : CType) (m : Bind) (all : List Found) → AllFound_fit all → FitsValue (called around type m all)
   called_fits around ready type (Fun number) all h = function_called_fits around type number (slice_get around.signatures number) all (ready.calls number) h
-  called_fits around ready type (Service number) all h = served_fits number all h
-  called_fits around ready type (Builtin number) all h = built_in_fits number all h
+  called_fits around ready type (Service service) all h = served_fits service all h
+  called_fits around ready type (OfBounds builtin) all h = built_in_fits builtin all h
   called_fits around ready type (Global number) all h = tt
   called_fits around ready type (Local number) all h = tt
 
@@ -322,7 +325,7 @@ module _ (private : ℕ) (is_bounds : ℕ → Bool) (takes : ℕ → ℕ) where
   step_fits (e.Var name) place around ready r = named_fits around ready (kind_at around r) (bind_at around r) place _
   step_fits (e.Unary op a) place around ready r = unary_fits op _ (a.0 around r) place _ (a.1 around ready r)
   step_fits (e.Binary op a c) place around ready r = no_place_fits _ (binary op around (a.0 around r) (c.0 around (a.0 around r).after)) place _
-      (binary_as_fits (arithmetic_at op) (comparison_at op) op around (a.0 around r) (c.0 around (a.0 around r).after) (a.1 around ready r) (c.1 around ready (a.0 around r).after))
+      (binary_fits op around (a.0 around r) (c.0 around (a.0 around r).after) (a.1 around ready r) (c.1 around ready (a.0 around r).after))
   step_fits (e.Assign op a c) place around ready r = assign_fits op around (a.0 around r) (c.0 around (a.0 around r).after) place _ (a.1 around ready r) (c.1 around ready (a.0 around r).after)
   step_fits (e.StepBy up before a) place around ready r = stepped_fits around up before (a.0 around r) place _ (a.1 around ready r)
   step_fits (e.Cond c a d) place around ready r = let x = c.0 around r in let y = a.0 around x.after in let z = d.0 around y.after in

@@ -8,15 +8,15 @@ use Rattle.c_tree.specs.declared.tree.ItemKind.{ItemKind}
 use Rattle.c_tree.specs.declared.tree.ItemKind.TheVariants as k
 use Rattle.c_tree.specs.declared.tree.Stmt.{Stmt}
 use Rattle.c_types.specs.Types.{CType, StructType}
-use Rattle.bounds_plan.specs.Compiled.{ParametersStand, FitsFunction}
-use Rattle.bounds_plan.specs.ElaborateTypes.{Sort, ANumber, APointer, AWhole, NoValue, sort_of}
-use Rattle.bounds_plan.specs.ElaborateSource.{Stand, Private, Frame, Meanings, SourceLayout, Signature, Around}
-use Rattle.bounds_plan.specs.ElaboratePlaces.{private_values_of, private_values, variable_at, variable_of}
-use Rattle.bounds_plan.specs.ElaborateExpressions.{expression}
-use Rattle.bounds_plan.specs.ElaborateInitialisers.{initialiser}
-use Rattle.bounds_plan.specs.ElaborateStatements.{declarations, statement_by, maybe}
-use Rattle.bounds_plan.specs.ElaborateFunctions.{Defined, Gone, Body, body_by, parameter_at, parameters_from, with_body, with_known, after_item, after_items, at_start, gone_by, elaborated, signatures_of}
-use Rattle.bounds_plan.specs.ElaborateLaws.{TakesParameters, AllFit}
+use Rattle.bounds_plan.specs.steps.Compiled.{ParametersStand, FitsFunction}
+use Rattle.bounds_plan.specs.elaboration.Types.{Sort, ANumber, APointer, AWhole, NoValue, sort_of}
+use Rattle.bounds_plan.specs.elaboration.Source.{Stand, Private, Frame, Meanings, SourceLayout, Signature, Around}
+use Rattle.bounds_plan.specs.elaboration.Places.{private_values_of, private_values, variable_at, variable_of}
+use Rattle.bounds_plan.specs.elaboration.Expressions.{expression}
+use Rattle.bounds_plan.specs.elaboration.Initialisers.{initialiser}
+use Rattle.bounds_plan.specs.elaboration.Statements.{declarations, statement_by, maybe}
+use Rattle.bounds_plan.specs.elaboration.Functions.{Defined, Gone, Body, body_by, parameter_at, parameters_from, with_body, with_known, after_item, after_items, at_start, gone_by, elaborated, signatures_of}
+use Rattle.bounds_plan.specs.elaboration.Laws.{TakesParameters, AllFit}
 use Rattle.bounds_plan.proofs.Fitting.{FitsPlace}
 use Rattle.bounds_plan.proofs.FittingBodies.{statements_fit}
 

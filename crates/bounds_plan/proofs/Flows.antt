@@ -12,13 +12,13 @@ use Rattle.fat_ir.specs.Step.{Symbols, State as T, Going, Next, To, Reached, On,
 use Rattle.fat_ir.specs.Run.{pass, and_then, followed, run_to, back, no_value}
 use Rattle.fat_ir.specs.Laws.{LacksLabel}
 use Rattle.fat_ir.proofs.Lists.{pass-append, pass-over, pass-here}
-use Rattle.bounds_plan.specs.Core.{NumberExpr, PointerExpr, Effect, Statement, Skip, Do, Then, If, While, DoWhile, For, Break, Continue, Return, ReturnNumber, ReturnPtr}
-use Rattle.bounds_plan.specs.State.{Pointer, OfNumber, OfPointer, State, Ended, Done, Stopped, M, bind, ◌>>=◌, ◌>>◌, pure, stop}
-use Rattle.bounds_plan.specs.Expressions.{Names, number, pointer, choose}
-use Rattle.bounds_plan.specs.Statements.{effect, Flow, Normal, Broke, Continued, Returned, Left, turn_from, turn, after_body, round, loop, round_once, loop_once, after_first, statement}
-use Rattle.bounds_plan.specs.Code.{labels, labels_effect, labels_of, code, code_ptr, code_effect, code_of}
-use Rattle.bounds_plan.specs.Laws.{IsOutside, LeftByCalls, NoMoreTurns}
-use Rattle.bounds_plan.specs.Follows.{Fits, FitsPtr, FitsEffect, FitsStatement, value_of, DoesSame}
+use Rattle.bounds_plan.specs.meaning.Core.{NumberExpr, PointerExpr, Effect, Statement, Skip, Do, Then, If, While, DoWhile, For, Break, Continue, Return, ReturnNumber, ReturnPtr}
+use Rattle.bounds_plan.specs.meaning.State.{Pointer, OfNumber, OfPointer, State, Ended, Done, Stopped, M, bind, ◌>>=◌, ◌>>◌, pure, stop}
+use Rattle.bounds_plan.specs.meaning.Expressions.{Names, number, pointer, choose}
+use Rattle.bounds_plan.specs.meaning.Statements.{effect, Flow, Normal, Broke, Continued, Returned, Left, turn_from, turn, after_body, round, loop, round_once, loop_once, after_first, statement}
+use Rattle.bounds_plan.specs.steps.Code.{labels, labels_effect, labels_of, code, code_ptr, code_effect, code_of}
+use Rattle.bounds_plan.specs.laws.Laws.{IsOutside, LeftByCalls, NoMoreTurns}
+use Rattle.bounds_plan.specs.steps.Follows.{Fits, FitsPtr, FitsEffect, FitsStatement, value_of, DoesSame}
 use Rattle.bounds_plan.proofs.Fresh.{part, own, lacks-append, fresh, fresh_effect, fresh_statement}
 use Rattle.bounds_plan.proofs.Worlds.{Fewer, fewer-number, fewer-pointer, fewer-effect, fewer-statement}
 use Rattle.bounds_plan.proofs.Sim.{read_number, read_bounds, Agree, Sim, beside, NumberIn, PointerIn}

@@ -7,9 +7,9 @@ use Rattle.narrowing.specs.declared.member.Rule.TheVariants.{Keep, Meet as MeetR
 use Rattle.fat_ir.specs.declared.step.FatStep.{FatStep}
 use Rattle.fat_ir.specs.declared.step.FatStep.TheVariants.{Label}
 use Rattle.fat_ir.specs.Laws.{LacksLabel}
-use Rattle.bounds_plan.specs.Core.{NumberExpr, Word, Variable, Assign, Operate, Compare, Convert, AsNumber, Load, Store, Update, UpdateAt, And, Or, Choose, Call, Serve, Ask, PointerExpr, Null, FromInteger, Function, Object, InFrame, VariablePtr, AssignPtr, Member, Element, ElementAfter, LoadPtr, StorePtr, Advance, AdvanceAt, ChoosePtr, CallPtr, Alloc, SetBounds, NarrowBounds, CopyBounds, InitBounds, BoundOf, Arguments, NoMore, WithNumber, WithPointer, Scalar, Effect, Nothing, OfNumber, OfPointer, CopyStruct, Statement, Skip, Do, Then, If, While, DoWhile, For, Break, Continue, Return, ReturnNumber, ReturnPtr}
-use Rattle.bounds_plan.specs.Code.{labels, labels_ptr, labels_all, labels_effect, labels_of, ruled, copied, copied_all, code, code_ptr, codes, code_effect, code_of}
-use Rattle.bounds_plan.specs.Laws.{IsOutside}
+use Rattle.bounds_plan.specs.meaning.Core.{NumberExpr, Word, Variable, Assign, Operate, Compare, Convert, AsNumber, Load, Store, Update, UpdateAt, And, Or, Choose, Call, Serve, Ask, PointerExpr, Null, FromInteger, Function, Object, InFrame, VariablePtr, AssignPtr, Member, Element, ElementAfter, LoadPtr, StorePtr, Advance, AdvanceAt, ChoosePtr, CallPtr, Alloc, SetBounds, NarrowBounds, CopyBounds, InitBounds, BoundOf, Arguments, NoMore, WithNumber, WithPointer, Scalar, Effect, Nothing, OfNumber, OfPointer, CopyStruct, Statement, Skip, Do, Then, If, While, DoWhile, For, Break, Continue, Return, ReturnNumber, ReturnPtr}
+use Rattle.bounds_plan.specs.steps.Code.{labels, labels_ptr, labels_all, labels_effect, labels_of, ruled, copied, copied_all, code, code_ptr, codes, code_effect, code_of}
+use Rattle.bounds_plan.specs.laws.Laws.{IsOutside}
 
 -- a part of the labels
 pub part : {k l n : ℕ} (m i : ℕ) → l ≤ m → m + i ≤ l + n → IsOutside k l n → IsOutside k m i

@@ -2,11 +2,11 @@
 use Rattle.std.proofs.Common.{ℕ, ◌+◌, ◌≤◌, List, [], ◌∷◌, arith}
 use Rattle.mx_base.specs.declared.settings.Flags.{Flags}
 use Rattle.c_tree.specs.declared.tree.Tree.{Tree}
-use Rattle.bounds_plan.specs.Code.{most_pairs}
-use Rattle.bounds_plan.specs.ElaborateSource.{Meanings, SourceLayout}
-use Rattle.bounds_plan.specs.ElaborateFunctions.{Defined, elaborated, signatures_of}
-use Rattle.bounds_plan.specs.ElaborateWaits.{items_waits}
-use Rattle.bounds_plan.specs.ElaborateLaws.{TakesParameters, AllTakeFew, HaveFewPrivates, HaveFewVariables, AllFit, AllNeed, AllAssignable}
+use Rattle.bounds_plan.specs.steps.Code.{most_pairs}
+use Rattle.bounds_plan.specs.elaboration.Source.{Meanings, SourceLayout}
+use Rattle.bounds_plan.specs.elaboration.Functions.{Defined, elaborated, signatures_of}
+use Rattle.bounds_plan.specs.elaboration.Waits.{items_waits}
+use Rattle.bounds_plan.specs.elaboration.Laws.{TakesParameters, AllTakeFew, HaveFewPrivates, HaveFewVariables, AllFit, AllNeed, AllAssignable}
 use Rattle.bounds_plan.proofs.Few.{few_parameters, few_variables}
 use Rattle.bounds_plan.proofs.FittingItems.{elaborated_fit}
 use Rattle.bounds_plan.proofs.WaitingItems.{elaborated_need}

@@ -7,9 +7,9 @@ use Rattle.mx_base.specs.declared.numbers.IntKind.TheVariants.{I8, U8, I16, U16,
 use Rattle.c_types.specs.declared.layout.Layout.{Layout}
 use Rattle.c_types.specs.Types.{CType, Void, Int, Pointer, Array, Struct, StructType}
 use Rattle.c_types.specs.Layouts.{width, next_multiple, offsets_from, end_from, widest, struct_layout, layout_by, layout_of_struct, layout_of}
-use Rattle.bounds_plan.specs.Core.{Scalar}
-use Rattle.bounds_plan.specs.Laws.{scalar_size, AllInside}
-use Rattle.bounds_plan.specs.ElaborateScalars.{scalar_at, repeated, joined_at, scalars_by, scalars_of_struct, scalars_of}
+use Rattle.bounds_plan.specs.meaning.Core.{Scalar}
+use Rattle.bounds_plan.specs.laws.Laws.{scalar_size, AllInside}
+use Rattle.bounds_plan.specs.elaboration.Scalars.{scalar_at, repeated, joined_at, scalars_by, scalars_of_struct, scalars_of}
 
 next_enough : (n align : ℕ) → 1 ≤ align → n ≤ next_multiple n align
 next_enough n align some = let positive : 0 < align = some in omega (arith, lt-div-mul-add {a = n + (align - 1)} {b = align} positive)

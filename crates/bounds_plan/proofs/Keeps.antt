@@ -8,7 +8,7 @@ use Rattle.mx_base.specs.declared.numbers.IntKind.{IntKind}
 use Rattle.mx_base.specs.declared.numbers.IntKind.TheVariants.{I8, U8, I16, U16, I32, U32, I64, U64}
 use Rattle.mx_base.specs.Numbers.{modulus, is_signed, IsNumberOf, residue, as_signed, number_of, value_of, word_of}
 use Rattle.c_types.specs.Layouts.{width}
-use Rattle.bounds_plan.specs.ElaborateTypes.{keeps}
+use Rattle.bounds_plan.specs.elaboration.Types.{keeps}
 
 -- ---- which numbers a type has
 

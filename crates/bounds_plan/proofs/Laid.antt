@@ -13,11 +13,11 @@ use Rattle.c_tree.specs.declared.tree.Stmt.{Stmt}
 use Rattle.c_tree.specs.declared.tree.StmtKind.TheFolds as sf
 use Rattle.c_tree.specs.declared.tree.StmtKind.TheBlock as sb
 use Rattle.c_tree.proofs.Laid.{exprs_laid, inits_laid, stmts_laid}
-use Rattle.bounds_plan.specs.ElaborateSource.{Meanings, SourceLayout}
-use Rattle.bounds_plan.specs.ElaborateExpressions.{Reading, step, expression}
-use Rattle.bounds_plan.specs.ElaborateInitialisers.{Filling, init_step, initialiser}
-use Rattle.bounds_plan.specs.ElaborateStatements.{Stating, stmt_step, statement_by, declares, declarations}
-use Rattle.bounds_plan.specs.ElaborateFunctions.{Gone, Defined, body_by, gone_by, elaborated}
+use Rattle.bounds_plan.specs.elaboration.Source.{Meanings, SourceLayout}
+use Rattle.bounds_plan.specs.elaboration.Expressions.{Reading, step, expression}
+use Rattle.bounds_plan.specs.elaboration.Initialisers.{Filling, init_step, initialiser}
+use Rattle.bounds_plan.specs.elaboration.Statements.{Stating, stmt_step, statement_by, declares, declarations}
+use Rattle.bounds_plan.specs.elaboration.Functions.{Gone, Defined, body_by, gone_by, elaborated}
 
 abbrev pub expression_laid : Expr → Reading
 expression_laid = eb.laid-Expr (ef.family (Place → Reading) Reading) (ef.steps (Place → Reading) Reading step (λ x. x.kind x.place))

@@ -8,16 +8,16 @@ use Rattle.c_tree.specs.declared.tree.ItemKind.{ItemKind}
 use Rattle.c_tree.specs.declared.tree.ItemKind.TheVariants as k
 use Rattle.c_tree.specs.declared.tree.Stmt.{Stmt}
 use Rattle.c_types.specs.Types.{CType, StructType}
-use Rattle.bounds_plan.specs.Functions.{Framed_variable}
-use Rattle.bounds_plan.specs.Roots.{StandsIn, IsFramed}
-use Rattle.bounds_plan.specs.ElaborateTypes.{Sort, ANumber, APointer, AWhole, NoValue, sort_of, size_in}
-use Rattle.bounds_plan.specs.ElaborateSource.{Stand, Private, Frame, Meanings, SourceLayout, Signature, Around, past_declaration, declared_at, bind_at, function_number}
-use Rattle.bounds_plan.specs.ElaboratePlaces.{private_values_of, offset_of, variable_at, variable_of}
-use Rattle.bounds_plan.specs.ElaborateExpressions.{expression}
-use Rattle.bounds_plan.specs.ElaborateInitialisers.{initialiser}
-use Rattle.bounds_plan.specs.ElaborateStatements.{declarations, statement_by, maybe}
-use Rattle.bounds_plan.specs.ElaborateFunctions.{Defined, Gone, Body, framed, framed_variables, declared_all, body_by, with_body, with_known, after_item, after_items, at_start, gone_by, elaborated}
-use Rattle.bounds_plan.specs.ElaborateLaws.{IsPlaced, NamesItsOwn, AllNameTheirOwn}
+use Rattle.bounds_plan.specs.meaning.Functions.{Framed_variable}
+use Rattle.bounds_plan.specs.laws.Roots.{StandsIn, IsFramed}
+use Rattle.bounds_plan.specs.elaboration.Types.{Sort, ANumber, APointer, AWhole, NoValue, sort_of, size_in}
+use Rattle.bounds_plan.specs.elaboration.Source.{Stand, Private, Frame, Meanings, SourceLayout, Signature, Around, past_declaration, declared_at, bind_at, function_number}
+use Rattle.bounds_plan.specs.elaboration.Places.{private_values_of, offset_of, variable_at, variable_of}
+use Rattle.bounds_plan.specs.elaboration.Expressions.{expression}
+use Rattle.bounds_plan.specs.elaboration.Initialisers.{initialiser}
+use Rattle.bounds_plan.specs.elaboration.Statements.{declarations, statement_by, maybe}
+use Rattle.bounds_plan.specs.elaboration.Functions.{Defined, Gone, Body, framed, framed_variables, declared_all, body_by, with_body, with_known, after_item, after_items, at_start, gone_by, elaborated}
+use Rattle.bounds_plan.specs.elaboration.Laws.{IsPlaced, NamesItsOwn, AllNameTheirOwn}
 use Rattle.bounds_plan.proofs.Fitting.{FitsPlace}
 use Rattle.bounds_plan.proofs.FittingItems.{variable_fits}
 use Rattle.bounds_plan.proofs.Naming.{NamesPlace}

@@ -9,10 +9,10 @@ use Rattle.narrowing.specs.declared.member.Rule.{Rule}
 use Rattle.narrowing.specs.declared.member.Rule.TheVariants.{Keep, Meet}
 use Rattle.fat_ir.specs.declared.step.FatStep.{FatStep}
 use Rattle.fat_ir.specs.declared.step.FatStep.TheVariants as s
-use Rattle.bounds_plan.specs.Core.{NumberExpr, Word, Variable, Assign, Operate, Compare, Convert, AsNumber, Load, Store, Update, UpdateAt, And, Or, Choose, Call, Serve, Ask, PointerExpr, Null, FromInteger, Function, Object, InFrame, VariablePtr, AssignPtr, Member, Element, ElementAfter, LoadPtr, StorePtr, Advance, AdvanceAt, ChoosePtr, CallPtr, Alloc, SetBounds, NarrowBounds, CopyBounds, InitBounds, BoundOf, Arguments, NoMore, WithNumber, WithPointer, Scalar, Effect, Nothing, OfNumber as ForNumber, OfPointer as ForPointer, CopyStruct, Statement, Skip, Do, Then, If, While, DoWhile, For, Break, Continue, Return, ReturnNumber, ReturnPtr}
-use Rattle.bounds_plan.specs.Functions.{Parameter, Private, Framed, FunctionOfC}
-use Rattle.bounds_plan.specs.Code.{labels, labels_ptr, labels_all, labels_of, labels_effect, offset_by, ruled, code, code_ptr, codes, copied, copied_all, code_effect, code_of, arrivals, arrived, fat_function}
-use Rattle.bounds_plan.specs.Laws.{times, JumpsTo}
+use Rattle.bounds_plan.specs.meaning.Core.{NumberExpr, Word, Variable, Assign, Operate, Compare, Convert, AsNumber, Load, Store, Update, UpdateAt, And, Or, Choose, Call, Serve, Ask, PointerExpr, Null, FromInteger, Function, Object, InFrame, VariablePtr, AssignPtr, Member, Element, ElementAfter, LoadPtr, StorePtr, Advance, AdvanceAt, ChoosePtr, CallPtr, Alloc, SetBounds, NarrowBounds, CopyBounds, InitBounds, BoundOf, Arguments, NoMore, WithNumber, WithPointer, Scalar, Effect, Nothing, OfNumber as ForNumber, OfPointer as ForPointer, CopyStruct, Statement, Skip, Do, Then, If, While, DoWhile, For, Break, Continue, Return, ReturnNumber, ReturnPtr}
+use Rattle.bounds_plan.specs.meaning.Functions.{Parameter, Private, Framed, FunctionOfC}
+use Rattle.bounds_plan.specs.steps.Code.{labels, labels_ptr, labels_all, labels_of, labels_effect, offset_by, ruled, code, code_ptr, codes, copied, copied_all, code_effect, code_of, arrivals, arrived, fat_function}
+use Rattle.bounds_plan.specs.laws.Laws.{times, JumpsTo}
 
 -- ---- how often a label stands
 

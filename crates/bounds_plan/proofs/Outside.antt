@@ -4,13 +4,13 @@ use Rattle.mx_base.specs.declared.limits.Bounds.{Bounds}
 use Rattle.mx_base.specs.BoundsStore.{BoundsStore, keep_bounds}
 use Rattle.mx_base.specs.World.{World, MadeAt, LegacyInit, Log, with_store}
 use Rattle.fat_ir.specs.Calls.{Outcome, with_turns}
-use Rattle.bounds_plan.specs.State.{Passed, OfNumber, OfPointer, with_made, with_cause}
-use Rattle.bounds_plan.specs.Expressions.{Answer, Comes, Stops, CalleeOfC}
-use Rattle.bounds_plan.specs.Laws.{Relation, OutputGrows, Judged, Leaves, LeftOutside, NoMoreTurns, InPieces, EventOutside}
-use Rattle.bounds_plan.specs.Follows.{outcome_of}
-use Rattle.bounds_plan.specs.Compiled.{OutsideSame}
-use Rattle.bounds_plan.specs.Roots.{AllRooted, LogGrows, LeavesRooted, RootedCalls, RootedOutside}
-use Rattle.bounds_plan.specs.Outside.{made_and_kept, once_kept, widened, lends, once_kept_by_steps, widened_by_steps, lends_by_steps, kept_or_same, lending}
+use Rattle.bounds_plan.specs.meaning.State.{Passed, OfNumber, OfPointer, with_made, with_cause}
+use Rattle.bounds_plan.specs.meaning.Expressions.{Answer, Comes, Stops, CalleeOfC}
+use Rattle.bounds_plan.specs.laws.Laws.{Relation, OutputGrows, Judged, Leaves, LeftOutside, NoMoreTurns, InPieces, EventOutside}
+use Rattle.bounds_plan.specs.steps.Follows.{outcome_of}
+use Rattle.bounds_plan.specs.steps.Compiled.{OutsideSame}
+use Rattle.bounds_plan.specs.laws.Roots.{AllRooted, LogGrows, LeavesRooted, RootedCalls, RootedOutside}
+use Rattle.bounds_plan.specs.meaning.Outside.{made_and_kept, once_kept, widened, lends, once_kept_by_steps, widened_by_steps, lends_by_steps, kept_or_same, lending}
 use Rattle.bounds_plan.proofs.Roots.{grows-same, grows-join, made-grows, made-stands, cause-grows, cause-stands, rooted-later, rooted-kept, kept-keep}
 use Rattle.bounds_plan.proofs.Runs.{Keeps, kept-taking_turn}
 use Rattle.bounds_plan.proofs.Worlds.{fewer, longer, longer-by-none, judged, no_access, pieces}

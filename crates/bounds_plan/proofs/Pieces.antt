@@ -25,12 +25,12 @@ use Rattle.fat_ir.specs.Run.{pass, and_then}
 use Rattle.fat_ir.specs.Laws.{LacksLabel}
 use Rattle.fat_ir.proofs.Lists.{pass-append, pass-over, pass-here}
 use Rattle.std.proofs.lemmas.Bool.Decides.{nat_tests}
-use Rattle.bounds_plan.specs.Core.{Arguments}
-use Rattle.bounds_plan.specs.State.{Pointer, Passed, OfNumber, OfPointer, State, Ended, Done, Stopped, M, bind, ◌>>=◌, ◌>>◌, pure, stored, with_cause, with_made, place_of}
-use Rattle.bounds_plan.specs.Accesses.{load, store, load_ptr, store_ptr, read_number as source_read, write_number as source_write, read_pointer, write_pointer, allow, came, went, with_root}
-use Rattle.bounds_plan.specs.Expressions.{Answer, Comes, Stops, operate, divided, object, choose, truth, either, serving, served_with, block, answered_with, number_passed, pointer_passed, step, stepped, with_address, member}
-use Rattle.bounds_plan.specs.Code.{full, plus_or_minus, before_or_after, arguments_at, ruled, offset_by, scaled, code}
-use Rattle.bounds_plan.specs.Follows.{count, values_of, outcome_of}
+use Rattle.bounds_plan.specs.meaning.Core.{Arguments}
+use Rattle.bounds_plan.specs.meaning.State.{Pointer, Passed, OfNumber, OfPointer, State, Ended, Done, Stopped, M, bind, ◌>>=◌, ◌>>◌, pure, stored, with_cause, with_made, place_of}
+use Rattle.bounds_plan.specs.meaning.Accesses.{load, store, load_ptr, store_ptr, read_number as source_read, write_number as source_write, read_pointer, write_pointer, allow, came, went, with_root}
+use Rattle.bounds_plan.specs.meaning.Expressions.{Answer, Comes, Stops, operate, divided, object, choose, truth, either, serving, served_with, block, answered_with, number_passed, pointer_passed, step, stepped, with_address, member}
+use Rattle.bounds_plan.specs.steps.Code.{full, plus_or_minus, before_or_after, arguments_at, ruled, offset_by, scaled, code}
+use Rattle.bounds_plan.specs.steps.Follows.{count, values_of, outcome_of}
 use Rattle.narrowing.specs.declared.member.Rule.{Rule}
 use Rattle.narrowing.specs.declared.member.Rule.TheVariants.{Keep, Meet as MeetRule}
 use Rattle.narrowing.specs.Member.{bounds_by}

@@ -18,13 +18,13 @@ use Rattle.narrowing.specs.declared.member.Rule.{Rule}
 use Rattle.narrowing.specs.declared.member.Rule.TheVariants.{Keep, Meet}
 use Rattle.narrowing.specs.Member.{bounds_by}
 use Rattle.fat_ir.specs.Step.{Located, ObjectAt, FunctionAt, served_in_c, stop_by}
-use Rattle.bounds_plan.specs.Core.{NumberExpr, Word, Variable, Assign, Operate, Compare, Convert, AsNumber, Load, Store, Update, UpdateAt, And, Or, Choose, Call, Serve, Ask, PointerExpr, Null, FromInteger, Function, Object, InFrame, VariablePtr, AssignPtr, Member, Element, ElementAfter, LoadPtr, StorePtr, Advance, AdvanceAt, ChoosePtr, CallPtr, Alloc, SetBounds, NarrowBounds, CopyBounds, InitBounds, BoundOf, Arguments, NoMore, WithNumber, WithPointer}
-use Rattle.bounds_plan.specs.State.{Pointer, Passed, OfNumber, OfPointer, State, Ended, Done, Stopped, M, bind, ◌>>◌, pure, unless, making, full_by, made_before, with_made, with_cause, stored, set_variable_ptr}
+use Rattle.bounds_plan.specs.meaning.Core.{NumberExpr, Word, Variable, Assign, Operate, Compare, Convert, AsNumber, Load, Store, Update, UpdateAt, And, Or, Choose, Call, Serve, Ask, PointerExpr, Null, FromInteger, Function, Object, InFrame, VariablePtr, AssignPtr, Member, Element, ElementAfter, LoadPtr, StorePtr, Advance, AdvanceAt, ChoosePtr, CallPtr, Alloc, SetBounds, NarrowBounds, CopyBounds, InitBounds, BoundOf, Arguments, NoMore, WithNumber, WithPointer}
+use Rattle.bounds_plan.specs.meaning.State.{Pointer, Passed, OfNumber, OfPointer, State, Ended, Done, Stopped, M, bind, ◌>>◌, pure, unless, making, full_by, made_before, with_made, with_cause, stored, set_variable_ptr}
 use Rattle.std.specs.Option.{option_map}
-use Rattle.bounds_plan.specs.Accesses.{leaves, judge, allow, access, with_granule, root_for, with_root, came, went, read_number, write_number, read_pointer, write_pointer, load, store, load_ptr, store_ptr}
-use Rattle.bounds_plan.specs.Expressions.{Answer, Comes, Stops, Names as NamesOf, answered_with, calling, pointer_passed, served_with, serving, block, choose, divided, operate, object, in_frame, with_address, step, either, number, pointer, arguments}
-use Rattle.bounds_plan.specs.Functions.{Framed_variable}
-use Rattle.bounds_plan.specs.Roots.{HasRoot, KeptHasRoot, AllRooted, LogGrows, PassedHasRoot, AllHaveRoots, LeavesRooted, RootedCalls, StandsIn, Names, NamesPtr, NamesAll, ObjectMade, IsFramed}
+use Rattle.bounds_plan.specs.meaning.Accesses.{leaves, judge, allow, access, with_granule, root_for, with_root, came, went, read_number, write_number, read_pointer, write_pointer, load, store, load_ptr, store_ptr}
+use Rattle.bounds_plan.specs.meaning.Expressions.{Answer, Comes, Stops, Names as NamesOf, answered_with, calling, pointer_passed, served_with, serving, block, choose, divided, operate, object, in_frame, with_address, step, either, number, pointer, arguments}
+use Rattle.bounds_plan.specs.meaning.Functions.{Framed_variable}
+use Rattle.bounds_plan.specs.laws.Roots.{HasRoot, KeptHasRoot, AllRooted, LogGrows, PassedHasRoot, AllHaveRoots, LeavesRooted, RootedCalls, StandsIn, Names, NamesPtr, NamesAll, ObjectMade, IsFramed}
 use Rattle.bounds_plan.proofs.Roots.{stands-later, grows-same, grows-join, has-later, cause-stands, cause-grows, made-stands, made-grows, made-before-stands, narrower, met-lies, rooted-later, access-grows, rooted-access, kept-keep, load-some, rooted-kept}
 
 -- nothing is asked of a value

@@ -13,19 +13,19 @@ use Rattle.mx_base.specs.BoundsStore.{Kept}
 use Rattle.mx_base.specs.World.{World, Access, Traced, Log, world_at_start, empty_log, FullBy, UnsetPointer, NoReturn}
 use Rattle.fat_ir.specs.Calls.{with_turns, with_data_sp}
 use Rattle.fat_ir.specs.Functions.{Target, OfC, Outside}
-use Rattle.bounds_plan.specs.Core.{Scalar, Effect, Nothing, OfNumber as ForNumber, OfPointer as ForPointer, CopyStruct, Statement, Skip, Do, Then, If, While, DoWhile, For, Break, Continue, Return, ReturnNumber, ReturnPtr}
-use Rattle.bounds_plan.specs.State.{Pointer, Passed, OfNumber, OfPointer, State, Ended, Done, Stopped, M, bind, ◌>>=◌, ◌>>◌, pure, stop, full_by, with_made, with_cause, set_variable_ptr}
-use Rattle.bounds_plan.specs.Accesses.{judge, allow, read_number, write_number, read_pointer, write_pointer}
-use Rattle.bounds_plan.specs.Expressions.{Answer, Comes, Stops, CalleeOfC, Names as NamesOf, choose, number, pointer, in_frame, pointer_passed, number_passed}
-use Rattle.bounds_plan.specs.Statements.{part, copy_scalar, copy_scalars, effect, turn_from, turn, Flow, Normal, Broke, Continued, Returned, Left, after_body, round, loop, round_once, loop_once, after_first, statement}
-use Rattle.bounds_plan.specs.Functions.{Parameter, Private, Framed, Framed_variable, FunctionOfC, arrive, arrive_all, made_in_frame, unset, state_at_entry, result_of, answer_of, body_run, returning, Linked, call_of, names_of, entered_at, calls, exited, program_run}
-use Rattle.bounds_plan.specs.Functions.{turn_from as world_turn_from}
-use Rattle.bounds_plan.specs.Laws.{passes_on, Leaves, LeftOutside, Judged, accesses_of, AllWithin, CopiesWhole}
+use Rattle.bounds_plan.specs.meaning.Core.{Scalar, Effect, Nothing, OfNumber as ForNumber, OfPointer as ForPointer, CopyStruct, Statement, Skip, Do, Then, If, While, DoWhile, For, Break, Continue, Return, ReturnNumber, ReturnPtr}
+use Rattle.bounds_plan.specs.meaning.State.{Pointer, Passed, OfNumber, OfPointer, State, Ended, Done, Stopped, M, bind, ◌>>=◌, ◌>>◌, pure, stop, full_by, with_made, with_cause, set_variable_ptr}
+use Rattle.bounds_plan.specs.meaning.Accesses.{judge, allow, read_number, write_number, read_pointer, write_pointer}
+use Rattle.bounds_plan.specs.meaning.Expressions.{Answer, Comes, Stops, CalleeOfC, Names as NamesOf, choose, number, pointer, in_frame, pointer_passed, number_passed}
+use Rattle.bounds_plan.specs.meaning.Statements.{part, copy_scalar, copy_scalars, effect, turn_from, turn, Flow, Normal, Broke, Continued, Returned, Left, after_body, round, loop, round_once, loop_once, after_first, statement}
+use Rattle.bounds_plan.specs.meaning.Functions.{Parameter, Private, Framed, Framed_variable, FunctionOfC, arrive, arrive_all, made_in_frame, unset, state_at_entry, result_of, answer_of, body_run, returning, Linked, call_of, names_of, entered_at, calls, exited, program_run}
+use Rattle.bounds_plan.specs.meaning.Functions.{turn_from as world_turn_from}
+use Rattle.bounds_plan.specs.laws.Laws.{passes_on, Leaves, LeftOutside, Judged, accesses_of, AllWithin, CopiesWhole}
 use Rattle.bounds_plan.proofs.Worlds.{judged-calls}
 use Rattle.fat_ir.specs.Laws.{NoneRefused}
 use Rattle.fat_ir.specs.Functions.{most_depth}
-use Rattle.bounds_plan.specs.Compiled.{sorts_of}
-use Rattle.bounds_plan.specs.Roots.{RunsWithin, HasRoot, AllRooted, LogGrows, PassedHasRoot, AllHaveRoots, LeavesRooted, RootedCalls, RootedOutside, StandsIn, NamesEffect, NamesStatement, ObjectMade, IsFramed, ParametersFramed, AllMade}
+use Rattle.bounds_plan.specs.steps.Compiled.{sorts_of}
+use Rattle.bounds_plan.specs.laws.Roots.{RunsWithin, HasRoot, AllRooted, LogGrows, PassedHasRoot, AllHaveRoots, LeavesRooted, RootedCalls, RootedOutside, StandsIn, NamesEffect, NamesStatement, ObjectMade, IsFramed, ParametersFramed, AllMade}
 use Rattle.bounds_plan.proofs.Roots.{stands-later, stands-last, grows-same, grows-join, has-later, passed-later, all-passed-later, cause-stands, cause-grows, made-grows, rooted-later}
 use Rattle.bounds_plan.proofs.Rooted.{Numbers, Units, Points, Inv, From, Good, after, world-on, numbers-on, good-full, good-frame, good-judge, good-allow, good-read, good-write, good-read-pointer, good-write-pointer, good-set, good-passed, good-choose, good-number, good-pointer}
 

@@ -7,9 +7,9 @@ use Rattle.mx_base.specs.Bounds.{full_bounds, met}
 use Rattle.mx_base.specs.BoundsStore.{Kept, BoundsStore, granule, bounds_for, touch, touched_with, with_touched, with_kept, keep_bounds, load_bounds, megabyte}
 use Rattle.mx_base.proofs.StoreLemmas.{some-from-map}
 use Rattle.mx_base.specs.World.{World, Cause, Root, MadeAt, FullBy, Rooted, Traced, Log}
-use Rattle.bounds_plan.specs.State.{Pointer, Passed, OfNumber, OfPointer, place_of, with_made, with_cause}
-use Rattle.bounds_plan.specs.Accesses.{access, with_kept_root, with_granule}
-use Rattle.bounds_plan.specs.Roots.{LiesIn, MadeBy, RootStands, HasRoot, HadRoot, AllHadRoots, KeptHasRoot, Begins, AllRooted, LogGrows, PassedHasRoot, AllHaveRoots, StandsIn}
+use Rattle.bounds_plan.specs.meaning.State.{Pointer, Passed, OfNumber, OfPointer, place_of, with_made, with_cause}
+use Rattle.bounds_plan.specs.meaning.Accesses.{access, with_kept_root, with_granule}
+use Rattle.bounds_plan.specs.laws.Roots.{LiesIn, MadeBy, RootStands, HasRoot, HadRoot, AllHadRoots, KeptHasRoot, Begins, AllRooted, LogGrows, PassedHasRoot, AllHaveRoots, StandsIn}
 
 -- ---- lists
 

@@ -23,15 +23,15 @@ use Rattle.mx_base.proofs.BoundsLemmas.{is_outside-leaving_value}
 use Rattle.fat_ir.specs.Calls.{with_turns, with_data_sp}
 use Rattle.fat_ir.specs.Step.{Located, ObjectAt, FunctionAt, served_in_c}
 use Rattle.fat_ir.specs.Functions.{Target, OfC, Outside}
-use Rattle.bounds_plan.specs.Core.{Scalar, NumberExpr, Word, Variable, Assign, Operate, Compare, Convert, AsNumber, Load, Store, Update, UpdateAt, And, Or, Choose, Call, Serve, Ask, PointerExpr, Null, FromInteger, Function, Object, InFrame, VariablePtr, AssignPtr, Member, Element, ElementAfter, LoadPtr, StorePtr, Advance, AdvanceAt, ChoosePtr, CallPtr, Alloc, SetBounds, NarrowBounds, CopyBounds, InitBounds, BoundOf, Arguments, NoMore, WithNumber, WithPointer, Effect, Nothing, OfNumber as ForNumber, OfPointer as ForPointer, CopyStruct, Statement, Skip, Do, Then, If, While, DoWhile, For, Break, Continue, Return, ReturnNumber, ReturnPtr}
-use Rattle.bounds_plan.specs.State.{Pointer, Passed, OfNumber, OfPointer, State, Ended, Done, Stopped, M, bind, ◌>>=◌, ◌>>◌, pure, stop, unless, with_made, with_cause}
-use Rattle.bounds_plan.specs.Accesses.{leaves, judge, allow, access, read_number, write_number, with_root, came, read_pointer, went, write_pointer, load, store, load_ptr, store_ptr, with_granule}
-use Rattle.bounds_plan.specs.Expressions.{Answer, Comes, Stops, CalleeOfC, Names, answered_with, calling, pointer_passed, number_passed, served_with, serving, block, choose, divided, operate, object, in_frame, number, pointer, arguments, step}
-use Rattle.bounds_plan.specs.Statements.{part, copy_scalar, copy_scalars, effect, turn_from, turn, Flow, Normal, Broke, Continued, Returned, Left, after_body, round, loop, round_once, loop_once, after_first, statement}
-use Rattle.bounds_plan.specs.Functions.{Parameter, Private, Framed, Framed_variable, FunctionOfC, arrive, arrive_all, made_in_frame, unset, state_at_entry, result_of, answer_of, body_run, taking_turn, entering, returning, Linked, call_of, names_of, entered_at, calls}
-use Rattle.bounds_plan.specs.Functions.{turn_from as world_turn_from}
+use Rattle.bounds_plan.specs.meaning.Core.{Scalar, NumberExpr, Word, Variable, Assign, Operate, Compare, Convert, AsNumber, Load, Store, Update, UpdateAt, And, Or, Choose, Call, Serve, Ask, PointerExpr, Null, FromInteger, Function, Object, InFrame, VariablePtr, AssignPtr, Member, Element, ElementAfter, LoadPtr, StorePtr, Advance, AdvanceAt, ChoosePtr, CallPtr, Alloc, SetBounds, NarrowBounds, CopyBounds, InitBounds, BoundOf, Arguments, NoMore, WithNumber, WithPointer, Effect, Nothing, OfNumber as ForNumber, OfPointer as ForPointer, CopyStruct, Statement, Skip, Do, Then, If, While, DoWhile, For, Break, Continue, Return, ReturnNumber, ReturnPtr}
+use Rattle.bounds_plan.specs.meaning.State.{Pointer, Passed, OfNumber, OfPointer, State, Ended, Done, Stopped, M, bind, ◌>>=◌, ◌>>◌, pure, stop, unless, with_made, with_cause}
+use Rattle.bounds_plan.specs.meaning.Accesses.{leaves, judge, allow, access, read_number, write_number, with_root, came, read_pointer, went, write_pointer, load, store, load_ptr, store_ptr, with_granule}
+use Rattle.bounds_plan.specs.meaning.Expressions.{Answer, Comes, Stops, CalleeOfC, Names, answered_with, calling, pointer_passed, number_passed, served_with, serving, block, choose, divided, operate, object, in_frame, number, pointer, arguments, step}
+use Rattle.bounds_plan.specs.meaning.Statements.{part, copy_scalar, copy_scalars, effect, turn_from, turn, Flow, Normal, Broke, Continued, Returned, Left, after_body, round, loop, round_once, loop_once, after_first, statement}
+use Rattle.bounds_plan.specs.meaning.Functions.{Parameter, Private, Framed, Framed_variable, FunctionOfC, arrive, arrive_all, made_in_frame, unset, state_at_entry, result_of, answer_of, body_run, taking_turn, entering, returning, Linked, call_of, names_of, entered_at, calls}
+use Rattle.bounds_plan.specs.meaning.Functions.{turn_from as world_turn_from}
 use Rattle.bounds_plan.proofs.Roots.{load-some}
-use Rattle.bounds_plan.specs.Laws.{Relation, Leaves, LeftByCalls, scalar_size, CopyFact, OfEffect, OfCopies}
+use Rattle.bounds_plan.specs.laws.Laws.{Relation, Leaves, LeftByCalls, scalar_size, CopyFact, OfEffect, OfCopies}
 
 -- what each small event keeps
 pub record Keeps (R : Relation) : Type 0 where

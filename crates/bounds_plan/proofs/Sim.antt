@@ -14,10 +14,10 @@ use Rattle.mx_base.specs.StopOfC.{Bounds, AtAccess}
 use Rattle.mx_base.specs.Bounds.{leaving_value}
 use Rattle.mx_base.specs.Access.{Refusal, refusal}
 use Rattle.std.specs.Option.{option_map}
-use Rattle.bounds_plan.specs.Accesses.{leaves, judge, allow}
+use Rattle.bounds_plan.specs.meaning.Accesses.{leaves, judge, allow}
 use Rattle.fat_ir.specs.Run.{pass, and_then}
 use Rattle.fat_ir.proofs.Lists.{pass-append}
-use Rattle.bounds_plan.specs.State.{Pointer, State, Ended, Done, Stopped, M, bind, ◌>>◌, unless}
+use Rattle.bounds_plan.specs.meaning.State.{Pointer, State, Ended, Done, Stopped, M, bind, ◌>>◌, unless}
 
 -- ---- values
 

@@ -5,15 +5,15 @@ use Rattle.narrowing.specs.declared.member.Rule.{Rule}
 use Rattle.narrowing.specs.declared.member.Rule.TheVariants.{Keep, Meet}
 use Rattle.fat_ir.specs.declared.step.FatStep.{FatStep}
 use Rattle.fat_ir.specs.declared.step.FatStep.TheVariants as s
-use Rattle.bounds_plan.specs.Core.{NumberExpr, Word, Variable, Assign, Operate, Compare, Convert, AsNumber, Load, Store, Update, UpdateAt, And, Or, Choose, Call, Serve, Ask, PointerExpr, Null, FromInteger, Function, Object, InFrame, VariablePtr, AssignPtr, Member, Element, ElementAfter, LoadPtr, StorePtr, Advance, AdvanceAt, ChoosePtr, CallPtr, Alloc, SetBounds, NarrowBounds, CopyBounds, InitBounds, BoundOf, Arguments, NoMore, WithNumber, WithPointer, Scalar, Effect, Nothing, OfNumber as ForNumber, OfPointer as ForPointer, CopyStruct, Statement, Skip, Do, Then, If, While, DoWhile, For, Break, Continue, Return, ReturnNumber, ReturnPtr}
-use Rattle.bounds_plan.specs.Code.{labels, labels_ptr, labels_of, before_or_after, arguments_at, ruled, code, code_ptr, codes, copied, copied_all, code_effect, code_of, arrivals, arrived, in_turn, most_pairs, fat_function}
-use Rattle.bounds_plan.specs.Follows.{Fits, FitsPtr, FitsAll, FitsEffect, FitsStatement, IsNumber, IsPointer}
+use Rattle.bounds_plan.specs.meaning.Core.{NumberExpr, Word, Variable, Assign, Operate, Compare, Convert, AsNumber, Load, Store, Update, UpdateAt, And, Or, Choose, Call, Serve, Ask, PointerExpr, Null, FromInteger, Function, Object, InFrame, VariablePtr, AssignPtr, Member, Element, ElementAfter, LoadPtr, StorePtr, Advance, AdvanceAt, ChoosePtr, CallPtr, Alloc, SetBounds, NarrowBounds, CopyBounds, InitBounds, BoundOf, Arguments, NoMore, WithNumber, WithPointer, Scalar, Effect, Nothing, OfNumber as ForNumber, OfPointer as ForPointer, CopyStruct, Statement, Skip, Do, Then, If, While, DoWhile, For, Break, Continue, Return, ReturnNumber, ReturnPtr}
+use Rattle.bounds_plan.specs.steps.Code.{labels, labels_ptr, labels_of, before_or_after, arguments_at, ruled, code, code_ptr, codes, copied, copied_all, code_effect, code_of, arrivals, arrived, in_turn, most_pairs, fat_function}
+use Rattle.bounds_plan.specs.steps.Follows.{Fits, FitsPtr, FitsAll, FitsEffect, FitsStatement, IsNumber, IsPointer}
 use Rattle.std.specs.Prelude.{slice_index_or, get_or, length}
 use Rattle.std.proofs.lemmas.List.{length-append, append_assoc, get_or_append_left, get_or-append-add}
 use Rattle.std.proofs.Math.Seq.{get_or-append_seam}
-use Rattle.bounds_plan.specs.Functions.{Parameter, Private, Framed, FunctionOfC}
-use Rattle.bounds_plan.specs.Compiled.{sorts_of, FitsFunction}
-use Rattle.bounds_plan.specs.Sorts.{pairs, pairs_ptr, pairs_all, pairs_effect, pairs_of, OfArguments, AllNameRight, NumberIn, BoundsIn}
+use Rattle.bounds_plan.specs.meaning.Functions.{Parameter, Private, Framed, FunctionOfC}
+use Rattle.bounds_plan.specs.steps.Compiled.{sorts_of, FitsFunction}
+use Rattle.bounds_plan.specs.steps.Sorts.{pairs, pairs_ptr, pairs_all, pairs_effect, pairs_of, OfArguments, AllNameRight, NumberIn, BoundsIn}
 
 module _ (private : ℕ) (sorts : ℕ → Bool) (takes : ℕ → ℕ) (N B : ℕ → Type 0) (numbers : (x : ℕ) → IsNumber private sorts x → N x) (pointers : (x : ℕ) → IsPointer private sorts x → N x × B (x + 1)) where
   abbrev pub All : List FatStep → Type 0

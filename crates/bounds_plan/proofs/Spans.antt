@@ -12,11 +12,11 @@ use Rattle.fat_ir.specs.declared.step.FatStep.{FatStep}
 use Rattle.fat_ir.specs.declared.step.FatStep.TheVariants as s
 use Rattle.fat_ir.specs.Named.{maybe, in_arguments}
 use Rattle.fat_ir.specs.Spans.{named, StandsAt, Spans, InSpan, HasSort, Rising, InFewSpans, most_at_once, IsAssignable}
-use Rattle.bounds_plan.specs.Functions.{Parameter, Private, Framed, FunctionOfC}
-use Rattle.bounds_plan.specs.Code.{code_of, arrivals, arrived, in_turn, most_pairs, fat_function}
-use Rattle.bounds_plan.specs.Follows.{IsNumber, IsPointer}
-use Rattle.bounds_plan.specs.Compiled.{sorts_of, FitsFunction}
-use Rattle.bounds_plan.specs.Sorts.{pairs_of, OfSome, OfArguments, NamesRight, AllNameRight, NumberIn, BoundsIn, how_many, same_sort}
+use Rattle.bounds_plan.specs.meaning.Functions.{Parameter, Private, Framed, FunctionOfC}
+use Rattle.bounds_plan.specs.steps.Code.{code_of, arrivals, arrived, in_turn, most_pairs, fat_function}
+use Rattle.bounds_plan.specs.steps.Follows.{IsNumber, IsPointer}
+use Rattle.bounds_plan.specs.steps.Compiled.{sorts_of, FitsFunction}
+use Rattle.bounds_plan.specs.steps.Sorts.{pairs_of, OfSome, OfArguments, NamesRight, AllNameRight, NumberIn, BoundsIn, how_many, same_sort}
 use Rattle.bounds_plan.proofs.Counting.{weights, at_most_weights, weights_add, three_parts, weights_of, no_weights, sort_itself, turns_count}
 use Rattle.bounds_plan.proofs.Sorts as sorted
 

@@ -1,6 +1,5 @@
 -- The core tree of an expression needs at most seven pairs of temporaries more than values wait in it.
-use Rattle.std.proofs.lemmas.Bool.{eqb-true}
-use Rattle.std.proofs.Common.{◌≡◌, ℕ, zero, suc, ◌+◌, ◌-◌, ◌≤◌, max, ◌==◌, ◌||◌, not, Bool, true, false, refl, List, [], ◌∷◌, map, length, if◌then◌else◌, sym, subst, arith}
+use Rattle.std.proofs.Common.{◌≡◌, ℕ, zero, suc, ◌+◌, ◌-◌, ◌≤◌, max, not, Bool, true, false, refl, List, [], ◌∷◌, map, length, if◌then◌else◌, subst, arith}
 use Rattle.std.specs.Prelude.{Option, None, Some, slice_get}
 use Rattle.mx_base.specs.declared.numbers.IntKind.{IntKind}
 use Rattle.mx_base.specs.declared.numbers.IntKind.TheVariants.{I32, I64, U64}
@@ -8,23 +7,32 @@ use Rattle.mx_base.specs.declared.places.Place.{Place}
 use Rattle.mx_base.specs.declared.operators.Arithmetic.{Arithmetic}
 use Rattle.mx_base.specs.declared.operators.Arithmetic.TheVariants.{Mul, Div, Rem, Add, Sub, Shl, Shr, BitAnd, BitXor, BitOr}
 use Rattle.mx_base.specs.declared.operators.Comparison.{Comparison}
-use Rattle.mx_base.specs.Operators.{arithmetic_at, comparison_at}
+use Rattle.mx_base.specs.declared.services.CService.{CService}
+use Rattle.mx_base.specs.declared.services.CService.TheVariants as in_c
 use Rattle.narrowing.specs.declared.member.Rule.{Rule}
 use Rattle.narrowing.specs.declared.member.Rule.TheVariants.{Keep, Meet}
+use Rattle.c_tree.specs.Operators.{is_logical}
+use Rattle.c_tree.specs.declared.operators.UnaryOp.{UnaryOp}
+use Rattle.c_tree.specs.declared.operators.UnaryOp.TheVariants as u
+use Rattle.c_tree.specs.declared.operators.Logical.TheVariants as l
+use Rattle.c_tree.specs.declared.operators.BinaryOp.{BinaryOp}
+use Rattle.c_tree.specs.declared.operators.BinaryOp.TheVariants as o
 use Rattle.c_tree.specs.declared.tree.ExprKind.{ExprKind-F}
 use Rattle.c_tree.specs.declared.tree.ExprKind.TheFolds as ef
 use Rattle.c_tree.specs.declared.tree.ExprKind.TheOpen as e
 use Rattle.c_tree.specs.declared.tree.Expr.{Expr, Expr-F, fold-Expr}
 use Rattle.c_types.specs.Types.{CType, Void, StructType}
-use Rattle.bounds_plan.specs.Core.{NumberExpr, Word, Convert, PointerExpr, Arguments}
-use Rattle.bounds_plan.specs.Sorts.{pairs, pairs_ptr, pairs_all, pairs_effect}
-use Rattle.bounds_plan.specs.ElaborateTypes.{Value, Numeric, Address, number_in, pointer_in, Sort, ANumber, APointer, AWhole, NoValue, sort_of, kind_of, size_in, step_in, promoted, common, done_in, keeps, converted, right_operand, wanted_pointer, given_as, given, cast_as}
+use Rattle.bounds_plan.specs.meaning.Core.{NumberExpr, Word, Convert, PointerExpr, Arguments}
+use Rattle.bounds_plan.specs.steps.Sorts.{pairs, pairs_ptr, pairs_all, pairs_effect}
+use Rattle.bounds_plan.specs.elaboration.Types.{Value, Numeric, Address, number_in, pointer_in, Sort, ANumber, APointer, AWhole, NoValue, sort_of, kind_of, size_in, step_in, promoted, common, done_in, keeps, converted, right_operand, wanted_pointer, given_as, given, cast_as}
 use Rattle.c_check_rules.specs.declared.predeclared.Bind.{Bind}
-use Rattle.c_check_rules.specs.declared.predeclared.Bind.TheVariants.{Global, Local, Fun, Service, Builtin}
-use Rattle.bounds_plan.specs.ElaborateSource.{Stand, Private, Frame, Reached, Signature, Around, kind_at, bind_at}
-use Rattle.bounds_plan.specs.ElaboratePlaces.{Lvalue, NumberVariable, PointerVariable, InMemory, address_in, loaded_as, read_as, stored_as, written_as, changed_at, changed_as, variable_at, variable_of, private_values_of, element_at, under_rule}
-use Rattle.bounds_plan.specs.ElaborateExpressions.{Found, Reading, effect_of, no_place, a_place, symbol_of, named, promoted_number, negative, inverse, is_zero, unary, arithmetic, compared, binary_as, binary, chosen_as, assigned, struct_copied, assignment_effect, compound_at, changed, assign_by, stepped_by, find_all, with_argument, arguments_for, called_as, argument_at, number_of_argument, pointer_of_argument, served, built_in, function_called, called, member, arrow, index_rule, index, step, expression}
-use Rattle.bounds_plan.specs.ElaborateWaits.{waits_from, is_logical, expr_waits, waits}
+use Rattle.c_check_rules.specs.declared.predeclared.Bind.TheVariants.{Global, Local, Fun, Service, Builtin as OfBounds}
+use Rattle.c_check_rules.specs.declared.predeclared.Builtin.{Builtin}
+use Rattle.c_check_rules.specs.declared.predeclared.Builtin.TheVariants as on_bounds
+use Rattle.bounds_plan.specs.elaboration.Source.{Stand, Private, Frame, Reached, Signature, Around, kind_at, bind_at}
+use Rattle.bounds_plan.specs.elaboration.Places.{Lvalue, NumberVariable, PointerVariable, InMemory, address_in, loaded_as, read_as, stored_as, written_as, changed_at, changed_as, variable_at, variable_of, private_values_of, element_at, under_rule}
+use Rattle.bounds_plan.specs.elaboration.Expressions.{Found, Reading, effect_of, no_place, a_place, symbol_of, named, promoted_number, negative, inverse, is_zero, unary, arithmetic, compared, binary, chosen_as, assigned, struct_copied, assignment_effect, changed, assign_by, stepped_by, find_all, with_argument, arguments_for, called_as, argument_at, number_of_argument, pointer_of_argument, served, built_in, function_called, called, member, arrow, index_rule, index, step, expression}
+use Rattle.bounds_plan.specs.elaboration.Waits.{waits_from, expr_waits, waits}
 use Rattle.c_tree.proofs.Inductions.{ExprA, ExprB, bare_exprs, every_exprs, exprs_fused}
 
 abbrev pub pairs_value : Value → ℕ
@@ -169,24 +177,20 @@ named_short : (w : ℕ) (around : Around) (type : CType) (m : Bind) (place : Pla
 named_short w around type (Global number) place after = a_place_short w type _ place after (omega arith)
 named_short w around type (Local number) place after = a_place_short w type (variable_of around.structs around.variables around.stands 0 number) place after (omega (arith, variables_short around.structs around.variables around.stands 0 number))
 named_short w around type (Fun number) place after = no_place_short w type _ place after (omega arith)
-named_short w around type (Service number) place after = no_place_short w type _ place after (omega arith)
-named_short w around type (Builtin number) place after = no_place_short w type _ place after (omega arith)
-
-either_short : (w : ℕ) (b : Bool) (f g : Found) → Short w f → Short w g → Short w (if b then f else g)
-either_short w true f g h k = h
-either_short w false f g h k = k
+named_short w around type (Service service) place after = no_place_short w type _ place after (omega arith)
+named_short w around type (OfBounds builtin) place after = no_place_short w type _ place after (omega arith)
 
 -- ---- operators
 
 promoted_short : (n : ℕ) (a : Found) → pairs_value a.value ≤ n → pairs (promoted_number a) ≤ n
 promoted_short n a h = converted_short n (kind_of a.type) (promoted (kind_of a.type)) (number_in a.value) (number_short n a.value h)
 
-unary_short : (w : ℕ) (op : ℕ) (type : CType) (a : Found) (place : Place) (after : Reached) → Short w a → Short w (unary op type a place after)
-unary_short w op type a place after h = either_short w (op == 0) _ _ (no_place_short w type (Numeric (negative a)) place after (omega (arith, promoted_short (w + 7) a h.value)))
-    (either_short w (op == 1) _ _ (no_place_short w type (Numeric (inverse a)) place after (omega (arith, promoted_short (w + 7) a h.value)))
-    (either_short w (op == 2) _ _ (no_place_short w type (Numeric (is_zero a)) place after (omega (arith, number_short (w + 7) a.value h.value)))
-    (either_short w (op == 3) _ _ (a_place_short w type (InMemory (pointer_in a.value)) place after (pointer_short (w + 7) a.value (omega arith) h.value))
-    (no_place_short w type (Address (address_in a.lvalue)) place after (address_short (w + 7) a.lvalue (omega arith) h.lvalue)))))
+unary_short : (w : ℕ) (op : UnaryOp) (type : CType) (a : Found) (place : Place) (after : Reached) → Short w a → Short w (unary op type a place after)
+unary_short w u.Neg type a place after h = no_place_short w type (Numeric (negative a)) place after (omega (arith, promoted_short (w + 7) a h.value))
+unary_short w u.BitNot type a place after h = no_place_short w type (Numeric (inverse a)) place after (omega (arith, promoted_short (w + 7) a h.value))
+unary_short w u.Not type a place after h = no_place_short w type (Numeric (is_zero a)) place after (omega (arith, number_short (w + 7) a.value h.value))
+unary_short w u.Deref type a place after h = a_place_short w type (InMemory (pointer_in a.value)) place after (pointer_short (w + 7) a.value (omega arith) h.value)
+unary_short w u.AddressOf type a place after h = no_place_short w type (Address (address_in a.lvalue)) place after (address_short (w + 7) a.lvalue (omega arith) h.lvalue)
 
 arithmetic_short : (n : ℕ) (structs : List StructType) (op : Arithmetic) (s t : CType) (v u : Value) → 2 ≤ n → pairs_value v ≤ n + 1 → pairs_value u ≤ n → pairs_value (arithmetic structs op s t v u) ≤ n + 1
 arithmetic_short n structs op s t (Numeric a) (Numeric b) two h k = omega (arith, converted_short (n + 1) (kind_of s) (done_in op (kind_of s) (kind_of t)) a h, right_short n op (kind_of t) (done_in op (kind_of s) (kind_of t)) b k)
@@ -199,16 +203,6 @@ compared_short n op ka kb (Numeric a) (Numeric b) h k = omega (arith, converted_
 compared_short n op ka kb (Address p) (Numeric b) h k = omega arith
 compared_short n op ka kb (Numeric a) (Address q) h k = omega arith
 compared_short n op ka kb (Address p) (Address q) h k = omega arith
-
-either_pairs : (n : ℕ) (b : Bool) (x y : NumberExpr) → pairs x ≤ n → pairs y ≤ n → pairs (if b then x else y) ≤ n
-either_pairs n true x y h k = h
-either_pairs n false x y h k = k
-
--- an operator that is not `&&` or `||` has its left operand wait
-calculating_short : (n : ℕ) (o : Option Arithmetic) (c : Option Comparison) (op : ℕ) (around : Around) (a b : Found) → 2 ≤ n → pairs_value a.value ≤ n + 1 → pairs_value b.value ≤ n → pairs_value (binary_as o c op around a b) ≤ n + 1
-calculating_short n (Some o) c op around a b two h k = arithmetic_short n around.structs o a.type b.type a.value b.value two h k
-calculating_short n None (Some c) op around a b two h k = compared_short n c (kind_of a.type) (kind_of b.type) a.value b.value h k
-calculating_short n None None op around a b two h k = either_pairs (n + 1) (op == 16) _ _ (omega (arith, number_short (n + 1) a.value h, number_short n b.value k)) (omega (arith, number_short (n + 1) a.value h, number_short n b.value k))
 
 chosen_short : (n : ℕ) (sort : Sort) (c a b : Found) → 1 ≤ n → pairs_value c.value ≤ n → pairs_value a.value ≤ n → pairs_value b.value ≤ n → pairs_value (chosen_as sort c a b) ≤ n
 chosen_short n (ANumber kind) c a b one h k l = omega (arith, number_short n c.value h, converted_short n (kind_of a.type) kind (number_in a.value) (number_short n a.value k), converted_short n (kind_of b.type) kind (number_in b.value) (number_short n b.value l))
@@ -230,7 +224,7 @@ assignment_effect_short n APointer structs a b three h k l = effect_short (n + 1
 assignment_effect_short n AWhole structs a b three h k l = copied_short n structs a.type a.lvalue a.place b three h l
 assignment_effect_short n NoValue structs a b three h k l = effect_short (n + 1) (assigned a b) (assigned_short n a b (omega arith) h k)
 
-assign_short : (v u : ℕ) (op : Option ℕ) (around : Around) (a b : Found) (place : Place) (after : Reached) → Short v a → Short u b → Short (max v (u + 1)) (assign_by op around a b place after)
+assign_short : (v u : ℕ) (op : Option Arithmetic) (around : Around) (a b : Found) (place : Place) (after : Reached) → Short v a → Short u b → Short (max v (u + 1)) (assign_by op around a b place after)
 assign_short v u None around a b place after h k = let n : ℕ = max v (u + 1) + 6 in let e : n + 1 ≡ max v (u + 1) + 7 = omega arith in
     let x : pairs_value (assigned a b) ≤ max v (u + 1) + 7 = omega (arith, assigned_short n a b (omega arith) (omega (arith, h.lvalue)) (omega (arith, k.value))) in record {
       value = x;
@@ -238,8 +232,8 @@ assign_short v u None around a b place after h k = let n : ℕ = max v (u + 1) +
       effect = omega (arith, assignment_effect_short n (sort_of a.type) around.structs a b (omega arith) (omega (arith, h.lvalue)) (omega (arith, k.value)) (omega (arith, k.lvalue)));
     }
 assign_short v u (Some op) around a b place after h k = let n : ℕ = max v (u + 1) + 6 in
-    no_place_short (max v (u + 1)) a.type (changed around.structs (compound_at op) a (kind_of b.type) (number_in b.value) false) place after
-    (omega (arith, changed_as_short n (kind_of a.type) (sort_of a.type) a.place a.lvalue (compound_at op) (kind_of b.type) (step_in around.structs a.type) (number_in b.value) false (omega arith) (omega (arith, h.lvalue)) (number_short n b.value (omega (arith, k.value)))))
+    no_place_short (max v (u + 1)) a.type (changed around.structs op a (kind_of b.type) (number_in b.value) false) place after
+    (omega (arith, changed_as_short n (kind_of a.type) (sort_of a.type) a.place a.lvalue op (kind_of b.type) (step_in around.structs a.type) (number_in b.value) false (omega arith) (omega (arith, h.lvalue)) (number_short n b.value (omega (arith, k.value)))))
 
 stepped_short : (w : ℕ) (around : Around) (up before : Bool) (a : Found) (place : Place) (after : Reached) → Short w a → Short w (stepped_by around up before a place after)
 stepped_short w around up before a place after h = no_place_short w a.type _ place after
@@ -247,15 +241,17 @@ stepped_short w around up before a place after h = no_place_short w a.type _ pla
 
 -- ---- operators on two operands
 
-logical_at : (n : ℕ) (b16 b17 : Bool) (op : ℕ) → (op == 16) ≡ b16 → (op == 17) ≡ b17 → (b16 || b17) ≡ true → (around : Around) (a b : Found) → pairs_value a.value ≤ n → pairs_value b.value ≤ n → pairs_value (binary op around a b) ≤ n
-unfolding arithmetic_at comparison_at
-logical_at n true b17 op p q l around a b h k = subst (λ o. pairs_value (binary o around a b) ≤ n) (sym (eqb-true op 16 p)) (omega (arith, number_short n a.value h, number_short n b.value k))
-logical_at n false true op p q l around a b h k = subst (λ o. pairs_value (binary o around a b) ≤ n) (sym (eqb-true op 17 q)) (omega (arith, number_short n a.value h, number_short n b.value k))
-logical_at n false false op p q l around a b h k = cc
-
-binary_short : (l : Bool) (op : ℕ) → is_logical op ≡ l → (v u : ℕ) (around : Around) (a b : Found) → Short v a → Short u b → pairs_value (binary op around a b) ≤ (if l then max v u else max v (u + 1)) + 7
-binary_short true op e v u around a b h k = logical_at (max v u + 7) (op == 16) (op == 17) op refl refl e around a b (omega (arith, h.value)) (omega (arith, k.value))
-binary_short false op e v u around a b h k = omega (arith, calculating_short (max v (u + 1) + 6) (arithmetic_at op) (comparison_at op) op around a b (omega arith) (omega (arith, h.value)) (omega (arith, k.value)))
+-- an operator that is not `&&` or `||` has its left operand wait
+binary_short : (op : BinaryOp) (v u : ℕ) (around : Around) (a b : Found) → Short v a → Short u b
+    → pairs_value (binary op around a b) ≤ (if is_logical op then max v u else max v (u + 1)) + 7
+binary_short (o.Arithmetic op) v u around a b h k = let n : ℕ = max v (u + 1) + 6 in
+    omega (arith, arithmetic_short n around.structs op a.type b.type a.value b.value (omega arith) (omega (arith, h.value)) (omega (arith, k.value)))
+binary_short (o.Comparison op) v u around a b h k = let n : ℕ = max v (u + 1) + 6 in
+    omega (arith, compared_short n op (kind_of a.type) (kind_of b.type) a.value b.value (omega (arith, h.value)) (omega (arith, k.value)))
+binary_short (o.Logical l.And) v u around a b h k = let n : ℕ = max v u + 7 in
+    omega (arith, number_short n a.value (omega (arith, h.value)), number_short n b.value (omega (arith, k.value)))
+binary_short (o.Logical l.Or) v u around a b h k = let n : ℕ = max v u + 7 in
+    omega (arith, number_short n a.value (omega (arith, h.value)), number_short n b.value (omega (arith, k.value)))
 
 -- ---- calls
 
@@ -311,28 +307,26 @@ pointer_argument_short : (n : ℕ) (all : List Found) (w : ℕ) → n ≤ 6 → 
 pointer_argument_short n all w few h = let a = argument_short n all 0 w (omega arith) h in let m : ℕ = (w + 7) - n in
     omega (arith, wanted_short m (argument_at n all).value (omega arith) (omega arith))
 
-either_value : (n : ℕ) (b : Bool) (x y : Value) → pairs_value x ≤ n → pairs_value y ≤ n → pairs_value (if b then x else y) ≤ n
-either_value n true x y h k = h
-either_value n false x y h k = k
+served_short : (w : ℕ) (service : CService) (all : List Found) → AllShort 0 w all → pairs_value (served service all) ≤ w + 7
+served_short w in_c.Print all h = omega (arith, number_argument_short I64 0 all w (omega arith) h)
+served_short w in_c.Put all h = omega (arith, number_argument_short I32 0 all w (omega arith) h)
+served_short w in_c.Get all h = omega arith
+served_short w in_c.Alloc all h = omega (arith, number_argument_short U64 0 all w (omega arith) h)
+served_short w in_c.Free all h = omega (arith, pointer_argument_short 0 all w (omega arith) h)
+served_short w in_c.Exit all h = omega (arith, number_argument_short I32 0 all w (omega arith) h)
 
-either_pointer : (n : ℕ) (b : Bool) (x y : PointerExpr) → pairs_ptr x ≤ n → pairs_ptr y ≤ n → pairs_ptr (if b then x else y) ≤ n
-either_pointer n true x y h k = h
-either_pointer n false x y h k = k
-
-served_short : (w number : ℕ) (all : List Found) → AllShort 0 w all → pairs_value (served number all) ≤ w + 7
-served_short w number all h = let l = number_argument_short I64 0 all w (omega arith) h in let i = number_argument_short I32 0 all w (omega arith) h in let u = number_argument_short U64 0 all w (omega arith) h in let p = pointer_argument_short 0 all w (omega arith) h in
-    either_value (w + 7) (number == 0) _ _ (omega arith) (either_value (w + 7) (number == 1) _ _ (omega arith) (either_value (w + 7) (number == 2) _ _ (omega arith)
-    (either_value (w + 7) (number == 3) _ _ (omega arith) (either_value (w + 7) (number == 4) _ _ (omega arith) (omega arith)))))
-
-built_in_short : (w number : ℕ) (all : List Found) → AllShort 0 w all → pairs_ptr (built_in number all) ≤ w + 7
-built_in_short w number all h = let p = pointer_argument_short 0 all w (omega arith) h in let q = pointer_argument_short 1 all w (omega arith) h in let m = number_argument_short U64 1 all w (omega arith) h in let n = number_argument_short U64 2 all w (omega arith) h in
-    either_pointer (w + 7) (number == 0) _ _ (omega arith) (either_pointer (w + 7) (number == 1) _ _ (omega arith) (either_pointer (w + 7) (number == 2) _ _ (omega arith)
-    (either_pointer (w + 7) (number == 3) _ _ (omega arith) (either_pointer (w + 7) (number == 4) _ _ (omega arith) (omega arith)))))
+built_in_short : (w : ℕ) (builtin : Builtin) (all : List Found) → AllShort 0 w all → pairs_ptr (built_in builtin all) ≤ w + 7
+built_in_short w on_bounds.SetBounds all h = omega (arith, pointer_argument_short 0 all w (omega arith) h, number_argument_short U64 1 all w (omega arith) h)
+built_in_short w on_bounds.NarrowBounds all h = omega (arith, pointer_argument_short 0 all w (omega arith) h, pointer_argument_short 1 all w (omega arith) h, number_argument_short U64 2 all w (omega arith) h)
+built_in_short w on_bounds.CopyBounds all h = omega (arith, pointer_argument_short 0 all w (omega arith) h, pointer_argument_short 1 all w (omega arith) h)
+built_in_short w on_bounds.InitBounds all h = omega (arith, pointer_argument_short 0 all w (omega arith) h)
+built_in_short w on_bounds.LowerBound all h = omega (arith, pointer_argument_short 0 all w (omega arith) h)
+built_in_short w on_bounds.UpperBound all h = omega (arith, pointer_argument_short 0 all w (omega arith) h)
 
 called_short : (w : ℕ) (around : Around) → Few around → (type : CType) (m : Bind) (all : List Found) → AllShort 0 w all → pairs_value (called around type m all) ≤ w + 7
 called_short w around few type (Fun number) all h = function_called_short w around type number (slice_get around.signatures number) all (few number) h
-called_short w around few type (Service number) all h = served_short w number all h
-called_short w around few type (Builtin number) all h = built_in_short w number all h
+called_short w around few type (Service service) all h = served_short w service all h
+called_short w around few type (OfBounds builtin) all h = built_in_short w builtin all h
 called_short w around few type (Global number) all h = omega arith
 called_short w around few type (Local number) all h = omega arith
 
@@ -364,7 +358,7 @@ step_short (e.Text bytes) place around few r = record { value = omega arith; lva
 step_short (e.Var name) place around few r = named_short 0 around (kind_at around r) (bind_at around r) place _
 step_short (e.Unary op a) place around few r = unary_short a.0.1 op _ (a.0.0 around r) place _ (a.1 around few r)
 step_short (e.Binary op a c) place around few r = let x = a.0.0 around r in let y = c.0.0 around x.after in
-    no_place_short (if is_logical op then max a.0.1 c.0.1 else max a.0.1 (c.0.1 + 1)) _ (binary op around x y) place _ (binary_short (is_logical op) op refl a.0.1 c.0.1 around x y (a.1 around few r) (c.1 around few x.after))
+    no_place_short (if is_logical op then max a.0.1 c.0.1 else max a.0.1 (c.0.1 + 1)) _ (binary op around x y) place _ (binary_short op a.0.1 c.0.1 around x y (a.1 around few r) (c.1 around few x.after))
 step_short (e.Assign op a c) place around few r = let x = a.0.0 around r in let y = c.0.0 around x.after in assign_short a.0.1 c.0.1 op around x y place _ (a.1 around few r) (c.1 around few x.after)
 step_short (e.StepBy up before a) place around few r = stepped_short a.0.1 around up before (a.0.0 around r) place _ (a.1 around few r)
 step_short (e.Cond c a d) place around few r = let x = c.0.0 around r in let y = a.0.0 around x.after in let z = d.0.0 around y.after in let w : ℕ = max c.0.1 (max a.0.1 d.0.1) in

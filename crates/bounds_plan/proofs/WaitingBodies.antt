@@ -15,16 +15,16 @@ use Rattle.c_tree.specs.declared.tree.StmtKind.TheFolds as sf
 use Rattle.c_tree.specs.declared.tree.StmtKind.TheOpen as s
 use Rattle.c_types.specs.Types.{CType, Void, Int, Pointer, Array, Struct, StructType, members_of}
 use Rattle.c_types.specs.Layouts.{layout_of, offsets_from}
-use Rattle.bounds_plan.specs.Core.{Word, Null, Scalar, Effect}
-use Rattle.bounds_plan.specs.Sorts.{pairs, pairs_effect, pairs_of}
-use Rattle.bounds_plan.specs.ElaborateScalars.{scalars_of, scalar_at}
-use Rattle.bounds_plan.specs.ElaborateTypes.{Value, Numeric, Address, number_in, Sort, ANumber, APointer, sort_of, kind_of, size_in, given}
-use Rattle.bounds_plan.specs.ElaborateSource.{Reached, Around, bind_at, local_number}
-use Rattle.bounds_plan.specs.ElaboratePlaces.{Lvalue, NumberVariable, PointerVariable, InMemory, written_as}
-use Rattle.bounds_plan.specs.ElaborateExpressions.{Found, effect_of, expression}
-use Rattle.bounds_plan.specs.ElaborateInitialisers.{Filling, part_at, zero_as, zero_written, zeros, member_zeros, text_filled, scalar_filled, bytes_of, one_filled, elements_filled, members_filled, many_filled, init_step, initialiser}
-use Rattle.bounds_plan.specs.ElaborateStatements.{Stating, in_order, done_by, tested_by, maybe, local_of, declared, return_of, returned_by, all_stated, past_counts, stmt_step, statement_by}
-use Rattle.bounds_plan.specs.ElaborateWaits.{most, waits, maybe_waits, init_waits, waits_init, maybe_waits_init, stmt_waits, waits_stmt}
+use Rattle.bounds_plan.specs.meaning.Core.{Word, Null, Scalar, Effect}
+use Rattle.bounds_plan.specs.steps.Sorts.{pairs, pairs_effect, pairs_of}
+use Rattle.bounds_plan.specs.elaboration.Scalars.{scalars_of, scalar_at}
+use Rattle.bounds_plan.specs.elaboration.Types.{Value, Numeric, Address, number_in, Sort, ANumber, APointer, sort_of, kind_of, size_in, given}
+use Rattle.bounds_plan.specs.elaboration.Source.{Reached, Around, bind_at, local_number}
+use Rattle.bounds_plan.specs.elaboration.Places.{Lvalue, NumberVariable, PointerVariable, InMemory, written_as}
+use Rattle.bounds_plan.specs.elaboration.Expressions.{Found, effect_of, expression}
+use Rattle.bounds_plan.specs.elaboration.Initialisers.{Filling, part_at, zero_as, zero_written, zeros, member_zeros, text_filled, scalar_filled, bytes_of, one_filled, elements_filled, members_filled, many_filled, init_step, initialiser}
+use Rattle.bounds_plan.specs.elaboration.Statements.{Stating, in_order, done_by, tested_by, maybe, local_of, declared, return_of, returned_by, all_stated, past_counts, stmt_step, statement_by}
+use Rattle.bounds_plan.specs.elaboration.Waits.{most, waits, maybe_waits, init_waits, waits_init, maybe_waits_init, stmt_waits, waits_stmt}
 use Rattle.bounds_plan.proofs.Waiting.{pairs_value, pairs_place, number_short, effect_short, given_short, written_short, copied_short, variables_short, Short, Few, expressions_short}
 use Rattle.c_tree.proofs.Inductions.{InitA, InitB, bare_inits, every_inits, inits_fused, StmtA, StmtB, bare_stmts, every_stmts, stmts_fused}
 

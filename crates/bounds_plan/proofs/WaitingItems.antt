@@ -7,14 +7,14 @@ use Rattle.c_tree.specs.declared.tree.Item.{Item}
 use Rattle.c_tree.specs.declared.tree.ItemKind.{ItemKind}
 use Rattle.c_tree.specs.declared.tree.ItemKind.TheVariants as k
 use Rattle.c_tree.specs.declared.tree.Stmt.{Stmt}
-use Rattle.bounds_plan.specs.Sorts.{pairs_of}
-use Rattle.bounds_plan.specs.ElaborateSource.{Meanings, SourceLayout, Reached, Signature, Around}
-use Rattle.bounds_plan.specs.ElaborateExpressions.{expression}
-use Rattle.bounds_plan.specs.ElaborateInitialisers.{initialiser}
-use Rattle.bounds_plan.specs.ElaborateStatements.{maybe, declarations, statement_by}
-use Rattle.bounds_plan.specs.ElaborateFunctions.{Defined, Gone, Body, body_by, with_body, with_known, after_item, after_items, at_start, gone_by, elaborated, signatures_of}
-use Rattle.bounds_plan.specs.ElaborateWaits.{waits_stmt, body_waits, item_waits, items_waits}
-use Rattle.bounds_plan.specs.ElaborateLaws.{HaveFewParameters, AllNeed}
+use Rattle.bounds_plan.specs.steps.Sorts.{pairs_of}
+use Rattle.bounds_plan.specs.elaboration.Source.{Meanings, SourceLayout, Reached, Signature, Around}
+use Rattle.bounds_plan.specs.elaboration.Expressions.{expression}
+use Rattle.bounds_plan.specs.elaboration.Initialisers.{initialiser}
+use Rattle.bounds_plan.specs.elaboration.Statements.{maybe, declarations, statement_by}
+use Rattle.bounds_plan.specs.elaboration.Functions.{Defined, Gone, Body, body_by, with_body, with_known, after_item, after_items, at_start, gone_by, elaborated, signatures_of}
+use Rattle.bounds_plan.specs.elaboration.Waits.{waits_stmt, body_waits, item_waits, items_waits}
+use Rattle.bounds_plan.specs.elaboration.Laws.{HaveFewParameters, AllNeed}
 use Rattle.bounds_plan.proofs.WaitingBodies.{statements_short}
 
 append_need : (n : ℕ) (fs : List Defined) (d : Defined) → AllNeed n fs → pairs_of d.function.body ≤ n → AllNeed n (fs ++ (d ∷ []))

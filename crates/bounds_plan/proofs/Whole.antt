@@ -8,14 +8,14 @@ use Rattle.fat_ir.specs.Values.{Values}
 use Rattle.fat_ir.specs.Step.{Symbols, State as T, Next}
 use Rattle.fat_ir.specs.Run.{followed, run_to, steps_run, no_value}
 use Rattle.fat_ir.proofs.Lists.{pass-here}
-use Rattle.bounds_plan.specs.Core.{Statement}
-use Rattle.bounds_plan.specs.State.{State, Ended, Done, Stopped, bind, ◌>>=◌}
-use Rattle.bounds_plan.specs.Expressions.{Names}
-use Rattle.bounds_plan.specs.Statements.{Flow, Normal, Broke, Continued, Returned, Left, statement}
-use Rattle.bounds_plan.specs.Functions.{result_of, answer_of}
-use Rattle.bounds_plan.specs.Code.{code_of}
-use Rattle.bounds_plan.specs.Laws.{LeftByCalls, NoMoreTurns}
-use Rattle.bounds_plan.specs.Follows.{FitsStatement, outcome_of, DoesSame, Holds, StandsSame, body_run_by_steps, body_run_in_c}
+use Rattle.bounds_plan.specs.meaning.Core.{Statement}
+use Rattle.bounds_plan.specs.meaning.State.{State, Ended, Done, Stopped, bind, ◌>>=◌}
+use Rattle.bounds_plan.specs.meaning.Expressions.{Names}
+use Rattle.bounds_plan.specs.meaning.Statements.{Flow, Normal, Broke, Continued, Returned, Left, statement}
+use Rattle.bounds_plan.specs.meaning.Functions.{result_of, answer_of}
+use Rattle.bounds_plan.specs.steps.Code.{code_of}
+use Rattle.bounds_plan.specs.laws.Laws.{LeftByCalls, NoMoreTurns}
+use Rattle.bounds_plan.specs.steps.Follows.{FitsStatement, outcome_of, DoesSame, Holds, StandsSame, body_run_by_steps, body_run_in_c}
 use Rattle.bounds_plan.proofs.Flows.{Goes, statement_goes}
 
 pub body_ends : (private : ℕ) (sorts : ℕ → Bool) (symbols : Symbols) (names : Names) (takes : ℕ → ℕ) (same_place : (x : ℕ) → symbols.located x ≡ names.located x) (same : DoesSame takes names.call symbols.call) (few : LeftByCalls NoMoreTurns names.call) (d : ℕ) (above : private ≤ d) (body : List FatStep) (res : Ended Flow) (r : Outcome)

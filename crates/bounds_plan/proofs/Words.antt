@@ -8,7 +8,7 @@ use Rattle.mx_base.specs.Numbers.{residue, number_of, value_of, wrapped, word_of
 use Rattle.mx_base.specs.declared.operators.Arithmetic.TheVariants.{Mul, Add, Sub}
 use Rattle.mx_base.specs.Operators.{arithmetic, word_arithmetic}
 use Rattle.mx_base.specs.Bounds.{addresses, moved}
-use Rattle.bounds_plan.specs.Expressions.{stepped}
+use Rattle.bounds_plan.specs.meaning.Expressions.{stepped}
 
 pub plus-word : (a b : ℕ) → word_arithmetic Add U64 a b ≡ Some (moved a b)
 unfolding word_arithmetic arithmetic value_of number_of wrapped word_of residue moved

@@ -12,13 +12,13 @@ use Rattle.mx_base.specs.BoundsStore.{BoundsStore, granule, keep_bounds}
 use Rattle.mx_base.specs.World.{World, Access, Traced, Log, read_noted, number_written, with_store}
 use Rattle.fat_ir.specs.Laws.{NoneRefused, NotWritten}
 use Rattle.fat_ir.proofs.Worlds.{Begins, begins-same, begins-join, served-longer, none-refused, not-front, not-back, elsewhere}
-use Rattle.bounds_plan.specs.Core.{NumberExpr, PointerExpr, Scalar, Statement, Skip, Do, Then, If, While, DoWhile, For, Break, Continue, Return, ReturnNumber, ReturnPtr, Effect, Nothing, OfNumber, OfPointer, CopyStruct}
-use Rattle.bounds_plan.specs.State.{Passed, Pointer, State, Ended}
-use Rattle.bounds_plan.specs.Accesses.{access}
-use Rattle.bounds_plan.specs.Expressions.{CalleeOfC, Names, number, pointer}
-use Rattle.bounds_plan.specs.Statements.{part, effect, statement}
-use Rattle.bounds_plan.specs.Functions.{Parameter, arrive_all, Linked, calls}
-use Rattle.bounds_plan.specs.Laws.{LeftByCalls, LeftOutside, NoMoreTurns, OutputGrows, Judged, accesses_of, AllWithin, scalar_size, most_bytes, AllInside, LieInside, CopiesWhole, CopyFact, OfEffect, OfCopies, Relation, NotKept, OnlyWrites, Events, InPieces, PieceOfC, Joined}
+use Rattle.bounds_plan.specs.meaning.Core.{NumberExpr, PointerExpr, Scalar, Statement, Skip, Do, Then, If, While, DoWhile, For, Break, Continue, Return, ReturnNumber, ReturnPtr, Effect, Nothing, OfNumber, OfPointer, CopyStruct}
+use Rattle.bounds_plan.specs.meaning.State.{Passed, Pointer, State, Ended}
+use Rattle.bounds_plan.specs.meaning.Accesses.{access}
+use Rattle.bounds_plan.specs.meaning.Expressions.{CalleeOfC, Names, number, pointer}
+use Rattle.bounds_plan.specs.meaning.Statements.{part, effect, statement}
+use Rattle.bounds_plan.specs.meaning.Functions.{Parameter, arrive_all, Linked, calls}
+use Rattle.bounds_plan.specs.laws.Laws.{LeftByCalls, LeftOutside, NoMoreTurns, OutputGrows, Judged, accesses_of, AllWithin, scalar_size, most_bytes, AllInside, LieInside, CopiesWhole, CopyFact, OfEffect, OfCopies, Relation, NotKept, OnlyWrites, Events, InPieces, PieceOfC, Joined}
 use Rattle.bounds_plan.proofs.Roots.{kept-keep}
 use Rattle.bounds_plan.proofs.Runs.{Keeps, Kept, CopiesAll, kept-number, kept-pointer, kept-effect, kept-statement, kept-arrive_all, kept-calls}
 use Rattle.bounds_plan.proofs.Parts.{part-inside}

@@ -5,11 +5,11 @@ ghost use Rattle.mx_base.specs.declared.numbers.IntKind.{IntKind};
 ghost use Rattle.mx_base.specs.Numbers.{IsNumberOf, value_of, word_of};
 ghost use Rattle.mx_base.specs.declared.settings.Flags.{Flags as FlagsOf};
 ghost use Rattle.c_tree.specs.declared.tree.Tree.{Tree as TreeOf};
-ghost use Rattle.bounds_plan.specs.ElaborateTypes.{keeps};
-ghost use Rattle.bounds_plan.specs.ElaborateSource.{Meanings, SourceLayout};
-ghost use Rattle.bounds_plan.specs.ElaborateFunctions.{elaborated, signatures_of};
-ghost use Rattle.bounds_plan.specs.ElaborateWaits.{items_waits};
-ghost use Rattle.bounds_plan.specs.ElaborateLaws.{TakesParameters, AllFit, HaveFewParameters, AllTakeFew, HaveFewPrivates, HaveFewVariables, AllNeed, AllCopyInside, AllAssignable, AllNameTheirOwn};
+ghost use Rattle.bounds_plan.specs.elaboration.Types.{keeps};
+ghost use Rattle.bounds_plan.specs.elaboration.Source.{Meanings, SourceLayout};
+ghost use Rattle.bounds_plan.specs.elaboration.Functions.{elaborated, signatures_of};
+ghost use Rattle.bounds_plan.specs.elaboration.Waits.{items_waits};
+ghost use Rattle.bounds_plan.specs.elaboration.Laws.{TakesParameters, AllFit, HaveFewParameters, AllTakeFew, HaveFewPrivates, HaveFewVariables, AllNeed, AllCopyInside, AllAssignable, AllNameTheirOwn};
 
 /// Every function that a tree is elaborated to is as its steps have it, whatever its tree and layout are: its private parameters
 /// have the first of its private values, its body names only private values of the right sort, and each call gives as many

@@ -8,19 +8,19 @@ ghost use Rattle.fat_ir.specs.Calls.{Callee, Stuck};
 ghost use Rattle.fat_ir.specs.Functions.{calls as calls_by_steps, program_run as program_run_by_steps};
 ghost use Rattle.fat_ir.specs.Values.{Values};
 ghost use Rattle.fat_ir.specs.Step.{Symbols};
-ghost use Rattle.bounds_plan.specs.State.{State, Passed};
-ghost use Rattle.bounds_plan.specs.Expressions.{CalleeOfC, Names};
-ghost use Rattle.bounds_plan.specs.Follows.{FitsStatement, values_of, outcome_of, DoesSame, StandsSame, Holds, body_run_by_steps, body_run_in_c};
-ghost use Rattle.bounds_plan.specs.Functions.{FunctionOfC, Linked, body_run, calls, program_run};
-ghost use Rattle.bounds_plan.specs.Compiled.{FitsFunction, function_run_by_steps, all_compiled, parameters_of, FitsProgram, OutsideSame};
+ghost use Rattle.bounds_plan.specs.meaning.State.{State, Passed};
+ghost use Rattle.bounds_plan.specs.meaning.Expressions.{CalleeOfC, Names};
+ghost use Rattle.bounds_plan.specs.steps.Follows.{FitsStatement, values_of, outcome_of, DoesSame, StandsSame, Holds, body_run_by_steps, body_run_in_c};
+ghost use Rattle.bounds_plan.specs.meaning.Functions.{FunctionOfC, Linked, body_run, calls, program_run};
+ghost use Rattle.bounds_plan.specs.steps.Compiled.{FitsFunction, function_run_by_steps, all_compiled, parameters_of, FitsProgram, OutsideSame};
 ghost use Rattle.fat_ir.specs.Spans.{IsAssignable};
-ghost use Rattle.bounds_plan.specs.Sorts.{pairs_of, AllNameRight, NumberIn, BoundsIn, how_many};
-ghost use Rattle.bounds_plan.specs.Outside.{lends, lends_by_steps, lending};
-ghost use Rattle.bounds_plan.specs.Roots.{AllRooted, RootedCalls, RootedOutside, AllMade, RunsWithin};
+ghost use Rattle.bounds_plan.specs.steps.Sorts.{pairs_of, AllNameRight, NumberIn, BoundsIn, how_many};
+ghost use Rattle.bounds_plan.specs.meaning.Outside.{lends, lends_by_steps, lending};
+ghost use Rattle.bounds_plan.specs.laws.Roots.{AllRooted, RootedCalls, RootedOutside, AllMade, RunsWithin};
 ghost use Rattle.fat_ir.specs.Laws.{LacksLabel, passes_on as passes_on_by_steps};
-ghost use Rattle.bounds_plan.specs.Core.{NumberExpr, PointerExpr, Statement};
-ghost use Rattle.bounds_plan.specs.Code.{labels, labels_ptr, labels_of, code, code_ptr, code_of, fat_parameters, fat_function, most_pairs};
-ghost use Rattle.bounds_plan.specs.Laws.{Leaves, IsOutside, times, JumpsTo, LeftByCalls, LeftOutside, NoMoreTurns, OutputGrows, Judged, OnlyWrites, Events, InPieces, CopiesWhole, passes_on};
+ghost use Rattle.bounds_plan.specs.meaning.Core.{NumberExpr, PointerExpr, Statement};
+ghost use Rattle.bounds_plan.specs.steps.Code.{labels, labels_ptr, labels_of, code, code_ptr, code_of, fat_parameters, fat_function, most_pairs};
+ghost use Rattle.bounds_plan.specs.laws.Laws.{Leaves, IsOutside, times, JumpsTo, LeftByCalls, LeftOutside, NoMoreTurns, OutputGrows, Judged, OnlyWrites, Events, InPieces, CopiesWhole, passes_on};
 
 /// No run of a program leaves more turns than there were, if nothing outside of it does.
 pub fn turns_never_grow()

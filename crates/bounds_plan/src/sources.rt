@@ -2,11 +2,11 @@
 
 ghost use Rattle.std.specs.Prelude.{true, [], ◌∷◌, codes};
 ghost use Rattle.mx_base.specs.StopOfC.{Exit, Bounds, OutOfTurns, Divide, StackOver, Unmapped, read_of, write_of};
-ghost use Rattle.bounds_plan.specs.Worked.{ends, narrowing, not_narrowing, other_flags_alone, read, written, pair, at, array_and_pointer, first_object, pairs_of_pointers};
-ghost use Rattle.bounds_plan.specs.WorkedSources.{copies_pointers, counts, descends_1, descends_2, divides_by_0, fills_block, frees_twice, keeps_pointer, prints_7, prints_members, reads_last_byte, reads_past_end, spoils_pointer, spreads_pointers, writes_element_3, writes_element_4};
-ghost use Rattle.bounds_plan.specs.WorkedForms.{calculates, changes, points, fills, goes_round, adds_in_order};
-ghost use Rattle.bounds_plan.specs.WorkedFlags.{trailing_array, nested_array, row_pointed_to, steps_element_4, adds_to_element_4, copies_from_bytes, copies_to_bytes};
-ghost use Rattle.bounds_plan.specs.WorkedRuns.{EndSo, SaysSo, objects_apart};
+ghost use Rattle.bounds_plan.specs.laws.Worked.{ends, narrowing, not_narrowing, other_flags_alone, read, written, pair, at, array_and_pointer, first_object, pairs_of_pointers};
+ghost use Rattle.bounds_plan.specs.laws.WorkedSources.{copies_pointers, counts, descends_1, descends_2, divides_by_0, fills_block, frees_twice, keeps_pointer, prints_7, prints_members, reads_last_byte, reads_past_end, spoils_pointer, spreads_pointers, writes_element_3, writes_element_4};
+ghost use Rattle.bounds_plan.specs.laws.WorkedForms.{calculates, changes, points, fills, goes_round, adds_in_order};
+ghost use Rattle.bounds_plan.specs.laws.WorkedFlags.{trailing_array, nested_array, row_pointed_to, steps_element_4, adds_to_element_4, copies_from_bytes, copies_to_bytes};
+ghost use Rattle.bounds_plan.specs.laws.WorkedRuns.{EndSo, SaysSo, objects_apart};
 
 /// How small programs end that are given as syntax trees: by which stop, with which output, with how many turns left, after which
 /// accesses, and with which megabytes asked for bounds. So they end by their meaning, and by the steps that they are compiled to.

@@ -3,7 +3,7 @@
 ghost use Rattle.std.specs.Prelude.{◌≡◌, Bool, true, false, [], ◌∷◌, codes};
 ghost use Rattle.mx_base.specs.Bounds.{bounds_at};
 ghost use Rattle.mx_base.specs.StopOfC.{Exit, Bounds, OutOfTurns, Divide, StackOver, Unmapped, read_of, write_of};
-ghost use Rattle.bounds_plan.specs.Worked.{ends, read, written, pair, at, run_alone, run_steps, narrowing, not_narrowing, first_object, array_and_pointer, pairs_of_pointers, prints_7, writes_element, reads_past_end, fills_block, keeps_pointer, spreads_pointers, reads_last_byte, prints_members, copies_pointers, counts, run_descent, run_descent_steps, divides_by_0, frees_twice, skips_2, adds_in_order, run_reading, run_reading_steps, run_borrowing, run_borrowing_steps};
+ghost use Rattle.bounds_plan.specs.laws.Worked.{ends, read, written, pair, at, run_alone, run_steps, narrowing, not_narrowing, first_object, array_and_pointer, pairs_of_pointers, prints_7, writes_element, reads_past_end, fills_block, keeps_pointer, spreads_pointers, reads_last_byte, prints_members, copies_pointers, counts, run_descent, run_descent_steps, divides_by_0, frees_twice, skips_2, adds_in_order, run_reading, run_reading_steps, run_borrowing, run_borrowing_steps};
 
 /// How small programs end: by which stop, with which output, with how many turns left, after which accesses, and with
 /// which megabytes asked for bounds. The sources stand beside their core trees.

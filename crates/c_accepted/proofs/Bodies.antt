@@ -16,15 +16,15 @@ use Rattle.c_check_statements.specs.Statements.{statement, maybe_statement}
 use Rattle.c_check_statements.specs.Walks.{◌then◌, walk_all, at_node, inside}
 use Rattle.c_check_statements.specs.Sources.{items, at_start}
 use Rattle.c_check.specs.Standing.{structs_seen}
-use Rattle.bounds_plan.specs.Laws.{OfCopies}
-use Rattle.bounds_plan.specs.Roots.{Begins, NamesStatement}
-use Rattle.bounds_plan.specs.ElaborateTypes.{sort_of}
-use Rattle.bounds_plan.specs.ElaborateSource.{Stand, FrameLayout, Meanings, Reached, Signature, Around, past_body, SourceLayout}
-use Rattle.bounds_plan.specs.ElaboratePlaces.{private_values_of}
-use Rattle.bounds_plan.specs.ElaborateExpressions.{expression}
-use Rattle.bounds_plan.specs.ElaborateInitialisers.{initialiser}
-use Rattle.bounds_plan.specs.ElaborateStatements.{statement_by, declarations, maybe}
-use Rattle.bounds_plan.specs.ElaborateFunctions.{parameters_from, Defined, Gone, no_frame, in_body, next_types, Body, body_by, with_body}
+use Rattle.bounds_plan.specs.laws.Laws.{OfCopies}
+use Rattle.bounds_plan.specs.laws.Roots.{Begins, NamesStatement}
+use Rattle.bounds_plan.specs.elaboration.Types.{sort_of}
+use Rattle.bounds_plan.specs.elaboration.Source.{Stand, FrameLayout, Meanings, Reached, Signature, Around, past_body, SourceLayout}
+use Rattle.bounds_plan.specs.elaboration.Places.{private_values_of}
+use Rattle.bounds_plan.specs.elaboration.Expressions.{expression}
+use Rattle.bounds_plan.specs.elaboration.Initialisers.{initialiser}
+use Rattle.bounds_plan.specs.elaboration.Statements.{statement_by, declarations, maybe}
+use Rattle.bounds_plan.specs.elaboration.Functions.{parameters_from, Defined, Gone, no_frame, in_body, next_types, Body, body_by, with_body}
 use Rattle.c_accepted.specs.Alike.{meanings_of, IsAt, Front, signatures_seen, TakesWhatItHas, AllTakeWhatTheyHave, IsSmall, AllCopySmall}
 use Rattle.c_accepted.specs.Wholes.{known_behind, IsWhole, NamesWholeGlobals, AllNameWholeGlobals}
 use Rattle.c_accepted.specs.Frames.{AllPlanned, AllFramed, AreOfBodies}

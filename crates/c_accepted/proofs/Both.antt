@@ -1,7 +1,7 @@
 -- Two facts of all that a function names, as one.
 use Rattle.std.proofs.Common.{ℕ}
-use Rattle.bounds_plan.specs.Core.{NumberExpr, Word, Variable, Assign, Operate, Compare, Convert, AsNumber, Load, Store, Update, UpdateAt, And, Or, Choose, Call, Serve, Ask, PointerExpr, Null, FromInteger, Function, Object, InFrame, VariablePtr, AssignPtr, Member, Element, ElementAfter, LoadPtr, StorePtr, Advance, AdvanceAt, ChoosePtr, CallPtr, Alloc, SetBounds, NarrowBounds, CopyBounds, InitBounds, BoundOf, Arguments, NoMore, WithNumber, WithPointer, Effect, Nothing, OfNumber as ForNumber, OfPointer as ForPointer, CopyStruct, Statement, Skip, Do, Then, If, While, DoWhile, For, Break, Continue, Return, ReturnNumber, ReturnPtr}
-use Rattle.bounds_plan.specs.Roots.{Names, NamesPtr, NamesAll, NamesEffect, NamesStatement}
+use Rattle.bounds_plan.specs.meaning.Core.{NumberExpr, Word, Variable, Assign, Operate, Compare, Convert, AsNumber, Load, Store, Update, UpdateAt, And, Or, Choose, Call, Serve, Ask, PointerExpr, Null, FromInteger, Function, Object, InFrame, VariablePtr, AssignPtr, Member, Element, ElementAfter, LoadPtr, StorePtr, Advance, AdvanceAt, ChoosePtr, CallPtr, Alloc, SetBounds, NarrowBounds, CopyBounds, InitBounds, BoundOf, Arguments, NoMore, WithNumber, WithPointer, Effect, Nothing, OfNumber as ForNumber, OfPointer as ForPointer, CopyStruct, Statement, Skip, Do, Then, If, While, DoWhile, For, Break, Continue, Return, ReturnNumber, ReturnPtr}
+use Rattle.bounds_plan.specs.laws.Roots.{Names, NamesPtr, NamesAll, NamesEffect, NamesStatement}
 
 module _ (S T U : ℕ → ℕ → ℕ → Type 0) (F G H : ℕ → ℕ → Type 0) (P Q R : ℕ → Type 0)
     (join_object : (symbol offset size : ℕ) → S symbol offset size → T symbol offset size → U symbol offset size) (join_framed : (offset size : ℕ) → F offset size → G offset size → H offset size) (join_private : (x : ℕ) → P x → Q x → R x) where

@@ -7,17 +7,27 @@ use Rattle.mx_base.specs.declared.places.Place.{Place}
 use Rattle.mx_base.specs.declared.operators.Arithmetic.{Arithmetic}
 use Rattle.mx_base.specs.declared.operators.Arithmetic.TheVariants.{Mul, Div, Rem, Add, Sub, Shl, Shr, BitAnd, BitXor, BitOr}
 use Rattle.mx_base.specs.declared.operators.Comparison.{Comparison}
+use Rattle.mx_base.specs.declared.services.CService.{CService}
+use Rattle.mx_base.specs.declared.services.CService.TheVariants as in_c
 use Rattle.narrowing.specs.declared.member.Rule.{Rule}
 use Rattle.narrowing.specs.declared.member.Rule.TheVariants.{Keep, Meet}
+use Rattle.c_tree.specs.declared.operators.UnaryOp.{UnaryOp}
+use Rattle.c_tree.specs.declared.operators.UnaryOp.TheVariants as u
+use Rattle.c_tree.specs.declared.operators.Logical.{Logical}
+use Rattle.c_tree.specs.declared.operators.Logical.TheVariants as l
+use Rattle.c_tree.specs.declared.operators.BinaryOp.{BinaryOp}
+use Rattle.c_tree.specs.declared.operators.BinaryOp.TheVariants as o
 use Rattle.c_types.specs.Types.{CType, Void, StructType}
-use Rattle.bounds_plan.specs.Core.{NumberExpr, Word, Convert, PointerExpr, Arguments}
-use Rattle.bounds_plan.specs.Roots.{Names, NamesPtr, NamesAll, NamesEffect}
-use Rattle.bounds_plan.specs.ElaborateTypes.{Value, Numeric, Address, number_in, pointer_in, Sort, ANumber, APointer, AWhole, NoValue, sort_of, kind_of, step_in, promoted, common, done_in, keeps, converted, right_operand, wanted_pointer, given_as, given, cast_as}
+use Rattle.bounds_plan.specs.meaning.Core.{NumberExpr, Word, Convert, PointerExpr, Arguments}
+use Rattle.bounds_plan.specs.laws.Roots.{Names, NamesPtr, NamesAll, NamesEffect}
+use Rattle.bounds_plan.specs.elaboration.Types.{Value, Numeric, Address, number_in, pointer_in, Sort, ANumber, APointer, AWhole, NoValue, sort_of, kind_of, step_in, promoted, common, done_in, keeps, converted, right_operand, wanted_pointer, given_as, given, cast_as}
 use Rattle.c_check_rules.specs.declared.predeclared.Bind.{Bind}
-use Rattle.c_check_rules.specs.declared.predeclared.Bind.TheVariants.{Global, Local, Fun, Service, Builtin}
-use Rattle.bounds_plan.specs.ElaborateSource.{Reached, Signature, Around}
-use Rattle.bounds_plan.specs.ElaboratePlaces.{Lvalue, NumberVariable, PointerVariable, InMemory, address_in, loaded_as, read_as, stored_as, written_as, changed_at, changed_as, under_rule}
-use Rattle.bounds_plan.specs.ElaborateExpressions.{Found, effect_of, no_place, a_place, symbol_of, promoted_number, negative, inverse, is_zero, unary, calculated, arithmetic, compared, binary_as, chosen_as, assigned, struct_copied, assignment_effect, compound_at, changed, assign_by, stepped_by, with_argument, arguments_for, called_as, argument_at, number_of_argument, pointer_of_argument, served, built_in, function_called, called, index_rule, index}
+use Rattle.c_check_rules.specs.declared.predeclared.Bind.TheVariants.{Global, Local, Fun, Service, Builtin as OfBounds}
+use Rattle.c_check_rules.specs.declared.predeclared.Builtin.{Builtin}
+use Rattle.c_check_rules.specs.declared.predeclared.Builtin.TheVariants as on_bounds
+use Rattle.bounds_plan.specs.elaboration.Source.{Reached, Signature, Around}
+use Rattle.bounds_plan.specs.elaboration.Places.{Lvalue, NumberVariable, PointerVariable, InMemory, address_in, loaded_as, read_as, stored_as, written_as, changed_at, changed_as, under_rule}
+use Rattle.bounds_plan.specs.elaboration.Expressions.{Found, effect_of, no_place, a_place, symbol_of, promoted_number, negative, inverse, is_zero, unary, calculated, arithmetic, compared, logical, binary, chosen_as, assigned, struct_copied, assignment_effect, changed, assign_by, stepped_by, with_argument, arguments_for, called_as, argument_at, number_of_argument, pointer_of_argument, served, built_in, function_called, called, index_rule, index}
 
 module _ (S : ℕ → ℕ → ℕ → Type 0) (F : ℕ → ℕ → Type 0) (P : ℕ → Type 0) where
   abbrev pub NamesValue : Value → Type 0
@@ -132,21 +142,17 @@ module _ (S : ℕ → ℕ → ℕ → Type 0) (F : ℕ → ℕ → Type 0) (P : 
   pub a_place_names : (type : CType) (l : Lvalue) (place : Place) (after : Reached) → NamesPlace l → NamesFound (a_place type l place after)
   a_place_names type l place after h = record { value = read_names (sort_of type) place l h; lvalue = h; effect = effect_names (read_as (sort_of type) place l) (read_names (sort_of type) place l h) }
 
-  either_names : (b : Bool) (f g : Found) → NamesFound f → NamesFound g → NamesFound (if b then f else g)
-  either_names true f g h k = h
-  either_names false f g h k = k
-
   -- ---- operators
 
   promoted_names : (a : Found) → NamesFound a → Names S F P (promoted_number a)
   promoted_names a h = converted_names (kind_of a.type) (promoted (kind_of a.type)) (number_in a.value) (number_names a.value h.value)
 
-  pub unary_names : (op : ℕ) (type : CType) (a : Found) (place : Place) (after : Reached) → NamesFound a → NamesFound (unary op type a place after)
-  unary_names op type a place after h = either_names (op == 0) _ _ (no_place_names type (Numeric (negative a)) place after (promoted_names a h, tt))
-      (either_names (op == 1) _ _ (no_place_names type (Numeric (inverse a)) place after (promoted_names a h, tt))
-      (either_names (op == 2) _ _ (no_place_names type (Numeric (is_zero a)) place after (number_names a.value h.value, tt))
-      (either_names (op == 3) _ _ (a_place_names type (InMemory (pointer_in a.value)) place after (pointer_names a.value h.value))
-      (no_place_names type (Address (address_in a.lvalue)) place after (address_names a.lvalue h.lvalue)))))
+  pub unary_names : (op : UnaryOp) (type : CType) (a : Found) (place : Place) (after : Reached) → NamesFound a → NamesFound (unary op type a place after)
+  unary_names u.Neg type a place after h = no_place_names type (Numeric (negative a)) place after (promoted_names a h, tt)
+  unary_names u.BitNot type a place after h = no_place_names type (Numeric (inverse a)) place after (promoted_names a h, tt)
+  unary_names u.Not type a place after h = no_place_names type (Numeric (is_zero a)) place after (number_names a.value h.value, tt)
+  unary_names u.Deref type a place after h = a_place_names type (InMemory (pointer_in a.value)) place after (pointer_names a.value h.value)
+  unary_names u.AddressOf type a place after h = no_place_names type (Address (address_in a.lvalue)) place after (address_names a.lvalue h.lvalue)
 
   calculated_names : (op : Arithmetic) (ka kb : IntKind) (a b : NumberExpr) → Names S F P a → Names S F P b → Names S F P (calculated op ka kb a b)
   calculated_names op ka kb a b h k = (converted_names ka (done_in op ka kb) a h, right_names op kb (done_in op ka kb) b k)
@@ -163,14 +169,14 @@ module _ (S : ℕ → ℕ → ℕ → Type 0) (F : ℕ → ℕ → Type 0) (P : 
   compared_names op ka kb (Numeric a) (Address q) h k = (h, k)
   compared_names op ka kb (Address p) (Address q) h k = (h, k)
 
-  either_number : (b : Bool) (x y : NumberExpr) → Names S F P x → Names S F P y → Names S F P (if b then x else y)
-  either_number true x y h k = h
-  either_number false x y h k = k
+  logical_names : (op : Logical) (a b : NumberExpr) → Names S F P a → Names S F P b → Names S F P (logical op a b)
+  logical_names l.And a b h k = (h, k)
+  logical_names l.Or a b h k = (h, k)
 
-  pub binary_as_names : (o : Option Arithmetic) (c : Option Comparison) (n : ℕ) (around : Around) (a b : Found) → NamesFound a → NamesFound b → NamesValue (binary_as o c n around a b)
-  binary_as_names (Some op) c n around a b h k = arithmetic_names around.structs op a.type b.type a.value b.value h.value k.value
-  binary_as_names None (Some op) n around a b h k = compared_names op (kind_of a.type) (kind_of b.type) a.value b.value h.value k.value
-  binary_as_names None None n around a b h k = either_number (n == 16) _ _ (number_names a.value h.value, number_names b.value k.value) (number_names a.value h.value, number_names b.value k.value)
+  pub binary_names : (op : BinaryOp) (around : Around) (a b : Found) → NamesFound a → NamesFound b → NamesValue (binary op around a b)
+  binary_names (o.Arithmetic op) around a b h k = arithmetic_names around.structs op a.type b.type a.value b.value h.value k.value
+  binary_names (o.Comparison op) around a b h k = compared_names op (kind_of a.type) (kind_of b.type) a.value b.value h.value k.value
+  binary_names (o.Logical op) around a b h k = logical_names op _ _ (number_names a.value h.value) (number_names b.value k.value)
 
   pub chosen_names : (sort : Sort) (c a b : Found) → NamesFound c → NamesFound a → NamesFound b → NamesValue (chosen_as sort c a b)
   chosen_names (ANumber kind) c a b h k l = (number_names c.value h.value, converted_names (kind_of a.type) kind (number_in a.value) (number_names a.value k.value), converted_names (kind_of b.type) kind (number_in b.value) (number_names b.value l.value))
@@ -195,10 +201,10 @@ module _ (S : ℕ → ℕ → ℕ → Type 0) (F : ℕ → ℕ → Type 0) (P : 
   changed_names : (structs : List StructType) (op : Arithmetic) (a : Found) (from : IntKind) (e : NumberExpr) (old : Bool) → NamesFound a → Names S F P e → NamesValue (changed structs op a from e old)
   changed_names structs op a from e old h k = changed_as_names (kind_of a.type) (sort_of a.type) a.place a.lvalue op from (step_in structs a.type) e old h.lvalue k
 
-  pub assign_names : (op : Option ℕ) (around : Around) (a b : Found) (place : Place) (after : Reached) → NamesFound a → NamesFound b → NamesFound (assign_by op around a b place after)
+  pub assign_names : (op : Option Arithmetic) (around : Around) (a b : Found) (place : Place) (after : Reached) → NamesFound a → NamesFound b → NamesFound (assign_by op around a b place after)
   assign_names None around a b place after h k = record { value = assigned_names a b h k; lvalue = pointer_names (assigned a b) (assigned_names a b h k); effect = assignment_effect_names (sort_of a.type) around.structs a b h k }
-  assign_names (Some op) around a b place after h k = no_place_names a.type (changed around.structs (compound_at op) a (kind_of b.type) (number_in b.value) false) place after
-      (changed_names around.structs (compound_at op) a (kind_of b.type) (number_in b.value) false h (number_names b.value k.value))
+  assign_names (Some op) around a b place after h k = no_place_names a.type (changed around.structs op a (kind_of b.type) (number_in b.value) false) place after
+      (changed_names around.structs op a (kind_of b.type) (number_in b.value) false h (number_names b.value k.value))
 
   pub stepped_names : (around : Around) (up before : Bool) (a : Found) (place : Place) (after : Reached) → NamesFound a → NamesFound (stepped_by around up before a place after)
   stepped_names around up before a place after h = no_place_names a.type _ place after (changed_names around.structs (if up then Add else Sub) a I32 (Word 1) (not before) h tt)
@@ -239,28 +245,26 @@ module _ (S : ℕ → ℕ → ℕ → Type 0) (F : ℕ → ℕ → Type 0) (P : 
   pointer_argument_names : (n : ℕ) (all : List Found) → AllFound_name all → NamesPtr S F P (pointer_of_argument n all)
   pointer_argument_names n all h = wanted_names (argument_at n all).value (argument_names n all h).value
 
-  either_value : (b : Bool) (x y : Value) → NamesValue x → NamesValue y → NamesValue (if b then x else y)
-  either_value true x y h k = h
-  either_value false x y h k = k
+  served_names : (service : CService) (all : List Found) → AllFound_name all → NamesValue (served service all)
+  served_names in_c.Print all h = number_argument_names I64 0 all h
+  served_names in_c.Put all h = number_argument_names I32 0 all h
+  served_names in_c.Get all h = tt
+  served_names in_c.Alloc all h = number_argument_names U64 0 all h
+  served_names in_c.Free all h = pointer_argument_names 0 all h
+  served_names in_c.Exit all h = number_argument_names I32 0 all h
 
-  either_pointer : (b : Bool) (x y : PointerExpr) → NamesPtr S F P x → NamesPtr S F P y → NamesPtr S F P (if b then x else y)
-  either_pointer true x y h k = h
-  either_pointer false x y h k = k
-
-  served_names : (number : ℕ) (all : List Found) → AllFound_name all → NamesValue (served number all)
-  served_names number all h = either_value (number == 0) _ _ (number_argument_names I64 0 all h) (either_value (number == 1) _ _ (number_argument_names I32 0 all h)
-      (either_value (number == 2) _ _ tt (either_value (number == 3) _ _ (number_argument_names U64 0 all h) (either_value (number == 4) _ _ (pointer_argument_names 0 all h) (number_argument_names I32 0 all h)))))
-
-  built_in_names : (number : ℕ) (all : List Found) → AllFound_name all → NamesPtr S F P (built_in number all)
-  built_in_names number all h = either_pointer (number == 0) _ _ (pointer_argument_names 0 all h, number_argument_names U64 1 all h)
-      (either_pointer (number == 1) _ _ (pointer_argument_names 0 all h, pointer_argument_names 1 all h, number_argument_names U64 2 all h)
-      (either_pointer (number == 2) _ _ (pointer_argument_names 0 all h, pointer_argument_names 1 all h) (either_pointer (number == 3) _ _ (pointer_argument_names 0 all h)
-      (either_pointer (number == 4) _ _ (pointer_argument_names 0 all h) (pointer_argument_names 0 all h)))))
+  built_in_names : (builtin : Builtin) (all : List Found) → AllFound_name all → NamesPtr S F P (built_in builtin all)
+  built_in_names on_bounds.SetBounds all h = (pointer_argument_names 0 all h, number_argument_names U64 1 all h)
+  built_in_names on_bounds.NarrowBounds all h = (pointer_argument_names 0 all h, pointer_argument_names 1 all h, number_argument_names U64 2 all h)
+  built_in_names on_bounds.CopyBounds all h = (pointer_argument_names 0 all h, pointer_argument_names 1 all h)
+  built_in_names on_bounds.InitBounds all h = pointer_argument_names 0 all h
+  built_in_names on_bounds.LowerBound all h = pointer_argument_names 0 all h
+  built_in_names on_bounds.UpperBound all h = pointer_argument_names 0 all h
 
   pub called_names : (around : Around) (type : CType) (m : Bind) (all : List Found) → AllFound_name all → NamesValue (called around type m all)
   called_names around type (Fun number) all h = function_called_names around type number (slice_get around.signatures number) all h
-  called_names around type (Service number) all h = served_names number all h
-  called_names around type (Builtin number) all h = built_in_names number all h
+  called_names around type (Service service) all h = served_names service all h
+  called_names around type (OfBounds builtin) all h = built_in_names builtin all h
   called_names around type (Global number) all h = tt
   called_names around type (Local number) all h = tt
 

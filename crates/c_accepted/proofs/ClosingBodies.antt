@@ -5,15 +5,15 @@ use Rattle.mx_base.specs.declared.numbers.IntKind.{IntKind}
 use Rattle.mx_base.specs.declared.places.Place.{Place}
 use Rattle.mx_base.specs.Numbers.{extended}
 use Rattle.c_types.specs.Types.{CType, Void, Int, Pointer, Array, Struct, StructType}
-use Rattle.bounds_plan.specs.Core.{Word, Null, Scalar, Effect}
-use Rattle.bounds_plan.specs.Roots.{Names, NamesEffect, NamesStatement}
-use Rattle.bounds_plan.specs.ElaborateScalars.{scalars_of, scalar_at}
-use Rattle.bounds_plan.specs.ElaborateTypes.{Value, Numeric, Address, number_in, Sort, ANumber, APointer, sort_of, kind_of, size_in, given}
-use Rattle.bounds_plan.specs.ElaborateSource.{Around}
-use Rattle.bounds_plan.specs.ElaboratePlaces.{Lvalue, NumberVariable, PointerVariable, InMemory, written_as}
-use Rattle.bounds_plan.specs.ElaborateExpressions.{Found, effect_of}
-use Rattle.bounds_plan.specs.ElaborateInitialisers.{part_at, zero_as, zero_written, zeros, member_zeros, text_filled, scalar_filled, bytes_of, one_filled}
-use Rattle.bounds_plan.specs.ElaborateStatements.{in_order, return_of}
+use Rattle.bounds_plan.specs.meaning.Core.{Word, Null, Scalar, Effect}
+use Rattle.bounds_plan.specs.laws.Roots.{Names, NamesEffect, NamesStatement}
+use Rattle.bounds_plan.specs.elaboration.Scalars.{scalars_of, scalar_at}
+use Rattle.bounds_plan.specs.elaboration.Types.{Value, Numeric, Address, number_in, Sort, ANumber, APointer, sort_of, kind_of, size_in, given}
+use Rattle.bounds_plan.specs.elaboration.Source.{Around}
+use Rattle.bounds_plan.specs.elaboration.Places.{Lvalue, NumberVariable, PointerVariable, InMemory, written_as}
+use Rattle.bounds_plan.specs.elaboration.Expressions.{Found, effect_of}
+use Rattle.bounds_plan.specs.elaboration.Initialisers.{part_at, zero_as, zero_written, zeros, member_zeros, text_filled, scalar_filled, bytes_of, one_filled}
+use Rattle.bounds_plan.specs.elaboration.Statements.{in_order, return_of}
 use Rattle.c_accepted.proofs.Closing.{NamesValue, NamesPlace, NamesFound, effect_names, given_names, written_names, copied_names}
 
 module _ (S : ℕ → ℕ → ℕ → Type 0) (F : ℕ → ℕ → Type 0) (P : ℕ → Type 0) where

@@ -9,15 +9,15 @@ use Rattle.c_tree.specs.declared.tree.InitKind.{InitKind-F}
 use Rattle.c_tree.specs.declared.tree.InitKind.TheOpen as i
 use Rattle.c_types.specs.Types.{CType, Void, Int, Pointer, Array, Struct, StructType, members_of}
 use Rattle.c_types.specs.Layouts.{layout_of, offsets_from}
-use Rattle.bounds_plan.specs.Core.{Word, Null, Scalar, Effect}
-use Rattle.bounds_plan.specs.Laws.{OfEffect, OfCopies}
-use Rattle.bounds_plan.specs.ElaborateScalars.{scalars_of, scalar_at}
-use Rattle.bounds_plan.specs.ElaborateTypes.{Numeric, Address, ANumber, APointer, sort_of, kind_of, size_in, given}
-use Rattle.bounds_plan.specs.ElaborateSource.{Reached, Around}
-use Rattle.bounds_plan.specs.ElaboratePlaces.{Lvalue, written_as}
-use Rattle.bounds_plan.specs.ElaborateExpressions.{Found, expression}
-use Rattle.bounds_plan.specs.ElaborateInitialisers.{Filling, part_at, zero_as, zero_written, zeros, member_zeros, text_filled, bytes_of, one_filled, elements_filled, members_filled, many_filled, init_step, initialiser}
-use Rattle.bounds_plan.specs.ElaborateStatements.{in_order}
+use Rattle.bounds_plan.specs.meaning.Core.{Word, Null, Scalar, Effect}
+use Rattle.bounds_plan.specs.laws.Laws.{OfEffect, OfCopies}
+use Rattle.bounds_plan.specs.elaboration.Scalars.{scalars_of, scalar_at}
+use Rattle.bounds_plan.specs.elaboration.Types.{Numeric, Address, ANumber, APointer, sort_of, kind_of, size_in, given}
+use Rattle.bounds_plan.specs.elaboration.Source.{Reached, Around}
+use Rattle.bounds_plan.specs.elaboration.Places.{Lvalue, written_as}
+use Rattle.bounds_plan.specs.elaboration.Expressions.{Found, expression}
+use Rattle.bounds_plan.specs.elaboration.Initialisers.{Filling, part_at, zero_as, zero_written, zeros, member_zeros, text_filled, bytes_of, one_filled, elements_filled, members_filled, many_filled, init_step, initialiser}
+use Rattle.bounds_plan.specs.elaboration.Statements.{in_order}
 use Rattle.c_tree.proofs.Inductions.{InitA, InitB, bare_inits, every_inits}
 use Rattle.c_accepted.specs.Alike.{IsSmall}
 use Rattle.c_accepted.proofs.Gives.{AreSmall, value_small}

@@ -16,9 +16,9 @@ use Rattle.c_check_statements.specs.declared.decls.Use.{Use}
 use Rattle.c_check_statements.specs.declared.state.State.{State}
 use Rattle.c_check_statements.specs.Counts.{no_counts, arrayed, count_after, next_counts, Counted, counted}
 use Rattle.c_check_statements.specs.Declarations.{Declared, plain_of, misfits, plain_kind, kind_by, kind_of, decl_kinds, accepted, introduced, counts_of, after_counts, declares}
-use Rattle.bounds_plan.specs.ElaborateSource.{Meanings, Reached, Around, declared_at, bind_at, past_declaration, past_member}
-use Rattle.bounds_plan.specs.ElaborateExpressions.{expression, find_all}
-use Rattle.bounds_plan.specs.ElaborateStatements.{past_counts}
+use Rattle.bounds_plan.specs.elaboration.Source.{Meanings, Reached, Around, declared_at, bind_at, past_declaration, past_member}
+use Rattle.bounds_plan.specs.elaboration.Expressions.{expression, find_all}
+use Rattle.bounds_plan.specs.elaboration.Statements.{past_counts}
 use Rattle.c_accepted.specs.Alike.{IsAt, Front}
 use Rattle.c_accepted.proofs.Empty.{first_empty, second_empty, none_at, not_broken, neither}
 use Rattle.c_accepted.proofs.Going.{begins_itself, begins_with, got_behind, one_longer, Goes, goes_nowhere, goes_then}

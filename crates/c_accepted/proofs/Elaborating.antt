@@ -18,10 +18,10 @@ use Rattle.c_check_statements.specs.Sources.{at_start}
 use Rattle.c_check.proofs.StandingItems.{numbered_source}
 use Rattle.c_tree.proofs.FewStars.{formed_has_few_stars}
 use Rattle.c_check.specs.Accepted.{at_first, is_too_large, IsAccepted, after}
-use Rattle.bounds_plan.specs.ElaborateSource.{Meanings, SourceLayout}
-use Rattle.bounds_plan.specs.ElaborateExpressions.{expression}
-use Rattle.bounds_plan.specs.ElaborateInitialisers.{initialiser}
-use Rattle.bounds_plan.specs.ElaborateFunctions.{after_items, at_start as elaborated_at_start, gone_by, gone_through, elaborated, signatures_of}
+use Rattle.bounds_plan.specs.elaboration.Source.{Meanings, SourceLayout}
+use Rattle.bounds_plan.specs.elaboration.Expressions.{expression}
+use Rattle.bounds_plan.specs.elaboration.Initialisers.{initialiser}
+use Rattle.bounds_plan.specs.elaboration.Functions.{after_items, at_start as elaborated_at_start, gone_by, gone_through, elaborated, signatures_of}
 use Rattle.c_accepted.specs.Alike.{meanings_of, FoundAlike, GoneAlike, AllTakeWhatTheyHave, AllCopySmall}
 use Rattle.c_accepted.specs.Wholes.{AllNameWholeGlobals}
 use Rattle.c_accepted.specs.Frames.{AllPlanned, AllFramed, AreOfBodies}

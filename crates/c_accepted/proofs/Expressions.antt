@@ -2,6 +2,7 @@
 use Rattle.std.proofs.Common.{◌≡◌, ℕ, refl, sym, ap, ◌∙◌, subst, Bool, true, false, ◌||◌, List, [], ◌∷◌, ◌++◌, map}
 use Rattle.std.specs.Prelude.{Option, None, Some}
 use Rattle.mx_base.specs.declared.places.Place.{Place}
+use Rattle.mx_base.specs.declared.operators.Arithmetic.{Arithmetic}
 use Rattle.c_tree.specs.declared.tree.Expr.{Expr, Expr-F, fold-Expr}
 use Rattle.c_tree.specs.declared.tree.ExprKind.{ExprKind-F}
 use Rattle.c_tree.specs.declared.tree.ExprKind.TheFolds as ef
@@ -19,9 +20,9 @@ use Rattle.c_check_typing.specs.Refusals.{breaks}
 use Rattle.c_check_typing.specs.Notes.{Own, Seen, node, leaf, one, two, three, unevaluated, unchanged, with_typed, judged}
 use Rattle.c_check_typing.specs.Rules.{params_of, params_after, takes_function, is_array, is_no_target, is_no_source, assign_own, step_own, call_own}
 use Rattle.c_check_typing.specs.Expressions.{Reading as Checking, Arguments, arguments, and_fits, call, kind_step, seen}
-use Rattle.bounds_plan.specs.Laws.{OfEffect}
-use Rattle.bounds_plan.specs.ElaborateSource.{Meanings, Reached, Around, kind_at, bind_at, past_kind, past_literal}
-use Rattle.bounds_plan.specs.ElaborateExpressions.{Reading, find_all, without_literals, step, expression}
+use Rattle.bounds_plan.specs.laws.Laws.{OfEffect}
+use Rattle.bounds_plan.specs.elaboration.Source.{Meanings, Reached, Around, kind_at, bind_at, past_kind, past_literal}
+use Rattle.bounds_plan.specs.elaboration.Expressions.{Reading, find_all, without_literals, step, expression}
 use Rattle.c_tree.proofs.Inductions.{ExprA, ExprB, bare_exprs, every_exprs, exprs_fused}
 use Rattle.c_accepted.specs.Alike.{IsSmall, meanings_of, IsAt, Front}
 use Rattle.c_accepted.proofs.Empty.{first_empty, second_empty, none_at, not_broken, neither}
@@ -127,11 +128,11 @@ judged_empty : (kinds : List _) (t : Typed) → (judged kinds t).broken ≡ [] �
 judged_empty [] t h = refl
 judged_empty (k ∷ more) t h = cc
 
-assign_no_array : (structs : List _) (op : Option ℕ) (a e : Typed) → (assign_own structs op a e).broken ≡ [] → NoArray a.kind
+assign_no_array : (structs : List _) (op : Option Arithmetic) (a e : Typed) → (assign_own structs op a e).broken ≡ [] → NoArray a.kind
 unfolding assign_own
 assign_no_array structs op a e h = target_no_array a.kind _ (neither (is_no_target a) (is_no_source e) (not_broken NotPlace _ (first_empty (breaks NotPlace _) _ (judged_empty _ _ h)))).0
 
-assign_alike : (place : Place) (structs : List _) (op : Option ℕ) (a b : Seen) (first second : Reading) → Alike a first → Alike b second → (two place a b (assign_own structs op)).broken ≡ []
+assign_alike : (place : Place) (structs : List _) (op : Option Arithmetic) (a b : Seen) (first second : Reading) → Alike a first → Alike b second → (two place a b (assign_own structs op)).broken ≡ []
     → Alike (two place a b (assign_own structs op)) (step (e.Assign op first second) place)
 unfolding two
 assign_alike place structs op a b first second x y h =

@@ -24,13 +24,13 @@ use Rattle.c_check_statements.specs.Initialisers.{filling, fills_target, filling
 use Rattle.c_check_statements.specs.Initialisers as c
 use Rattle.c_check_statements.specs.Structs.{kinds_in}
 use Rattle.c_check_statements.specs.Walks.{◌then◌, at_node, seen_in, past}
-use Rattle.bounds_plan.specs.ElaborateSource.{Meanings, Reached, Around}
-use Rattle.bounds_plan.specs.Core.{Effect}
-use Rattle.bounds_plan.specs.ElaborateScalars.{scalars_of, scalar_at}
-use Rattle.bounds_plan.specs.ElaborateTypes.{size_in}
-use Rattle.bounds_plan.specs.ElaboratePlaces.{Lvalue}
-use Rattle.bounds_plan.specs.ElaborateExpressions.{expression}
-use Rattle.bounds_plan.specs.ElaborateInitialisers.{Filling, after_one, one_filled, elements_filled, members_filled, many_filled, init_step, initialiser}
+use Rattle.bounds_plan.specs.elaboration.Source.{Meanings, Reached, Around}
+use Rattle.bounds_plan.specs.meaning.Core.{Effect}
+use Rattle.bounds_plan.specs.elaboration.Scalars.{scalars_of, scalar_at}
+use Rattle.bounds_plan.specs.elaboration.Types.{size_in}
+use Rattle.bounds_plan.specs.elaboration.Places.{Lvalue}
+use Rattle.bounds_plan.specs.elaboration.Expressions.{expression}
+use Rattle.bounds_plan.specs.elaboration.Initialisers.{Filling, after_one, one_filled, elements_filled, members_filled, many_filled, init_step, initialiser}
 use Rattle.c_tree.proofs.Inductions.{InitA, InitB, bare_inits, every_inits, inits_fused}
 use Rattle.c_accepted.specs.Alike.{meanings_of, IsAt, Front}
 use Rattle.c_accepted.specs.Wholes.{IsWhole}

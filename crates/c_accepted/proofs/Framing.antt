@@ -11,13 +11,13 @@ use Rattle.c_check_statements.specs.declared.state.Body.{Body}
 use Rattle.c_check_statements.specs.declared.state.BodyVariable.{BodyVariable}
 use Rattle.c_check_statements.specs.Frames.{variables_from}
 use Rattle.c_check.specs.Standing.{structs_seen}
-use Rattle.bounds_plan.specs.Functions.{Parameter, Private as PrivateParameter, Framed, Framed_variable}
-use Rattle.bounds_plan.specs.Core.{Statement}
-use Rattle.bounds_plan.specs.Roots.{Begins, StandsIn, ParametersFramed}
-use Rattle.bounds_plan.specs.ElaborateTypes.{sort_of}
-use Rattle.bounds_plan.specs.ElaborateSource.{Stand, Private, Frame, FrameLayout, SourceLayout, Reached, Around}
-use Rattle.bounds_plan.specs.ElaboratePlaces.{private_values_of, private_values}
-use Rattle.bounds_plan.specs.ElaborateFunctions.{Defined, no_frame, parameters_from, framed_variables, next_types, function_with}
+use Rattle.bounds_plan.specs.meaning.Functions.{Parameter, Private as PrivateParameter, Framed, Framed_variable}
+use Rattle.bounds_plan.specs.meaning.Core.{Statement}
+use Rattle.bounds_plan.specs.laws.Roots.{Begins, StandsIn, ParametersFramed}
+use Rattle.bounds_plan.specs.elaboration.Types.{sort_of}
+use Rattle.bounds_plan.specs.elaboration.Source.{Stand, Private, Frame, FrameLayout, SourceLayout, Reached, Around}
+use Rattle.bounds_plan.specs.elaboration.Places.{private_values_of, private_values}
+use Rattle.bounds_plan.specs.elaboration.Functions.{Defined, no_frame, parameters_from, framed_variables, next_types, function_with}
 use Rattle.c_accepted.specs.Frames.{AllStand, AllPlanned, AllFramed, types_of, IsOfBody, AreOfBodies}
 use Rattle.c_accepted.proofs.Heads.{AllScalar}
 

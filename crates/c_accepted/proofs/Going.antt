@@ -5,8 +5,8 @@ use Rattle.c_types.specs.Types.{CType, Void}
 use Rattle.c_check_rules.specs.declared.predeclared.Bind.{Bind}
 use Rattle.c_check_typing.specs.declared.typed.Notes.{Notes}
 use Rattle.c_check_typing.specs.Notes.{unchanged}
-use Rattle.bounds_plan.specs.Roots.{Begins}
-use Rattle.bounds_plan.specs.ElaborateSource.{Meanings, Reached, Around, past_kind, past_name}
+use Rattle.bounds_plan.specs.laws.Roots.{Begins}
+use Rattle.bounds_plan.specs.elaboration.Source.{Meanings, Reached, Around, past_kind, past_name}
 use Rattle.c_accepted.specs.Alike.{meanings_of, IsAt, Front}
 
 -- ---- lists

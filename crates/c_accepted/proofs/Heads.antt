@@ -20,10 +20,10 @@ use Rattle.c_check_statements.specs.Counts.{no_counts, counted}
 use Rattle.c_check_statements.specs.Declarations.{misfits, plain_of, plain_kind, kind_by, kind_of, is_here, with_local, after_counts, kind_and_more, param_kinds, same_lists, parameter_declared}
 use Rattle.c_check_statements.specs.Functions.{parameter}
 use Rattle.c_check_statements.specs.Walks.{◌then◌, walk_all}
-use Rattle.bounds_plan.specs.ElaborateSource.{Reached, Around, past_declaration}
-use Rattle.bounds_plan.specs.ElaborateExpressions.{expression}
-use Rattle.bounds_plan.specs.ElaborateStatements.{past_counts}
-use Rattle.bounds_plan.specs.ElaborateFunctions.{declared_all}
+use Rattle.bounds_plan.specs.elaboration.Source.{Reached, Around, past_declaration}
+use Rattle.bounds_plan.specs.elaboration.Expressions.{expression}
+use Rattle.bounds_plan.specs.elaboration.Statements.{past_counts}
+use Rattle.bounds_plan.specs.elaboration.Functions.{declared_all}
 use Rattle.c_accepted.specs.Alike.{meanings_of, IsAt, Front}
 use Rattle.c_accepted.proofs.Empty.{first_empty, second_empty}
 use Rattle.c_accepted.proofs.Going.{front_then}

@@ -12,7 +12,7 @@ use Rattle.c_check_statements.specs.Placing.{placed_after, members_placed, from_
 use Rattle.c_check_statements.specs.Structs.{kinds_in, open_struct}
 use Rattle.c_check.specs.Standing.{structs_from, structs_seen, IsLaid, AreLaid}
 use Rattle.c_check.proofs.Agreeing.{sizes_agree}
-use Rattle.bounds_plan.specs.Laws.{most_bytes}
+use Rattle.bounds_plan.specs.laws.Laws.{most_bytes}
 use Rattle.c_accepted.proofs.Sourcing.{StaySmall}
 
 -- ---- what stands in front of a list of structs is laid too

@@ -7,13 +7,13 @@ use Rattle.c_tree.specs.Formed.{IsFormed}
 use Rattle.c_check.specs.Accepted.{IsAccepted, after}
 use Rattle.c_check.proofs.StandingItems.{numbered_source}
 use Rattle.fat_ir.specs.Functions.{Target, OfC, Outside}
-use Rattle.bounds_plan.specs.Compiled.{FitsFunction, parameters_of, taken_by, FitsProgram}
-use Rattle.bounds_plan.specs.Core.{Effect, Nothing, OfNumber, OfPointer, CopyStruct, Statement, Skip, Do, Then, If, While, DoWhile, For, Break, Continue, Return, ReturnNumber, ReturnPtr}
-use Rattle.bounds_plan.specs.Functions.{FunctionOfC, Linked}
-use Rattle.bounds_plan.specs.Laws.{AllInside, LieInside, OfEffect, OfCopies, CopiesWhole}
-use Rattle.bounds_plan.specs.ElaborateSource.{SourceLayout, Signature}
-use Rattle.bounds_plan.specs.ElaborateFunctions.{Defined, elaborated, signatures_of}
-use Rattle.bounds_plan.specs.ElaborateLaws.{TakesParameters, AllFit, AllCopyInside}
+use Rattle.bounds_plan.specs.steps.Compiled.{FitsFunction, parameters_of, taken_by, FitsProgram}
+use Rattle.bounds_plan.specs.meaning.Core.{Effect, Nothing, OfNumber, OfPointer, CopyStruct, Statement, Skip, Do, Then, If, While, DoWhile, For, Break, Continue, Return, ReturnNumber, ReturnPtr}
+use Rattle.bounds_plan.specs.meaning.Functions.{FunctionOfC, Linked}
+use Rattle.bounds_plan.specs.laws.Laws.{AllInside, LieInside, OfEffect, OfCopies, CopiesWhole}
+use Rattle.bounds_plan.specs.elaboration.Source.{SourceLayout, Signature}
+use Rattle.bounds_plan.specs.elaboration.Functions.{Defined, elaborated, signatures_of}
+use Rattle.bounds_plan.specs.elaboration.Laws.{TakesParameters, AllFit, AllCopyInside}
 use Rattle.bounds_plan.proofs.FittingItems.{elaborated_fit}
 use Rattle.bounds_plan.proofs.Copying.{elaborated_whole}
 use Rattle.c_accepted.specs.Alike.{meanings_of, TakesWhatItHas, AllTakeWhatTheyHave, IsSmall, AllCopySmall}

@@ -6,10 +6,10 @@ use Rattle.std.proofs.lemmas.Option.{get_or_from_slice_get}
 use Rattle.c_types.specs.Types.{Void}
 use Rattle.fat_ir.specs.Functions.{Target, OfC, Outside}
 use Rattle.fat_ir.specs.Step.{FunctionAt}
-use Rattle.bounds_plan.specs.Functions.{Linked}
-use Rattle.bounds_plan.specs.Roots.{StandsIn}
-use Rattle.bounds_plan.specs.ElaborateSource.{SourceLayout, Signature}
-use Rattle.bounds_plan.specs.ElaborateFunctions.{Defined}
+use Rattle.bounds_plan.specs.meaning.Functions.{Linked}
+use Rattle.bounds_plan.specs.laws.Roots.{StandsIn}
+use Rattle.bounds_plan.specs.elaboration.Source.{SourceLayout, Signature}
+use Rattle.bounds_plan.specs.elaboration.Functions.{Defined}
 use Rattle.c_accepted.specs.Linked.{Source, defined_by, declared_by, IsOneOf, CallsRight, CanBeLinked}
 use Rattle.c_accepted.specs.Symbols.{AllDiffer, HaveSymbols}
 use Rattle.c_accepted.proofs.Taking.{other_symbol, got_within}

@@ -10,15 +10,15 @@ use Rattle.c_tree.specs.declared.tree.InitKind.TheFolds as nf
 use Rattle.c_tree.proofs.Inductions.{InitA, InitB, bare_inits, every_inits, inits_fused}
 use Rattle.c_types.specs.Types.{CType, Void, Int, Pointer, Array, Struct, members_of}
 use Rattle.c_types.specs.Layouts.{layout_of, offsets_from}
-use Rattle.bounds_plan.specs.Core.{Effect}
-use Rattle.bounds_plan.specs.ElaborateScalars.{scalars_of, scalar_at}
-use Rattle.bounds_plan.specs.ElaborateTypes.{kind_of, size_in}
-use Rattle.bounds_plan.specs.ElaborateSource.{Reached, Around}
-use Rattle.bounds_plan.specs.ElaboratePlaces.{Lvalue}
-use Rattle.bounds_plan.specs.ElaborateExpressions.{find_all, expression}
-use Rattle.bounds_plan.specs.ElaborateInitialisers.{Filling, after_one, bytes_of, one_filled, elements_filled, members_filled, many_filled, init_step, initialiser}
-use Rattle.bounds_plan.specs.ElaborateStatements.{past_counts}
-use Rattle.bounds_plan.specs.ElaborateFunctions.{declared_all}
+use Rattle.bounds_plan.specs.meaning.Core.{Effect}
+use Rattle.bounds_plan.specs.elaboration.Scalars.{scalars_of, scalar_at}
+use Rattle.bounds_plan.specs.elaboration.Types.{kind_of, size_in}
+use Rattle.bounds_plan.specs.elaboration.Source.{Reached, Around}
+use Rattle.bounds_plan.specs.elaboration.Places.{Lvalue}
+use Rattle.bounds_plan.specs.elaboration.Expressions.{find_all, expression}
+use Rattle.bounds_plan.specs.elaboration.Initialisers.{Filling, after_one, bytes_of, one_filled, elements_filled, members_filled, many_filled, init_step, initialiser}
+use Rattle.bounds_plan.specs.elaboration.Statements.{past_counts}
+use Rattle.bounds_plan.specs.elaboration.Functions.{declared_all}
 use Rattle.c_accepted.specs.Literals.{text_sizes, IsWholeText}
 use Rattle.c_accepted.specs.SourceLiterals.{Sizes, one_sizes, elements_sizes, members_sizes, many_sizes, init_sizes_step, init_sizes, counts_sizes, decls_sizes}
 use Rattle.c_accepted.proofs.Closing.{NamesPlace}

@@ -9,14 +9,14 @@ use Rattle.c_tree.specs.declared.tree.ItemKind.TheVariants as k
 use Rattle.c_tree.specs.declared.tree.Decl.{Decl}
 use Rattle.c_tree.specs.declared.tree.Init.{Init}
 use Rattle.c_tree.specs.declared.tree.Stmt.{Stmt}
-use Rattle.bounds_plan.specs.Core.{Null}
-use Rattle.bounds_plan.specs.Roots.{NamesStatement}
-use Rattle.bounds_plan.specs.ElaborateSource.{Meanings, SourceLayout, Signature, Around, Reached, past_declaration, past_member, declared_at, bind_at, function_number}
-use Rattle.bounds_plan.specs.ElaboratePlaces.{InMemory}
-use Rattle.bounds_plan.specs.ElaborateExpressions.{expression}
-use Rattle.bounds_plan.specs.ElaborateInitialisers.{initialiser}
-use Rattle.bounds_plan.specs.ElaborateStatements.{declarations, statement_by, maybe, past_counts}
-use Rattle.bounds_plan.specs.ElaborateFunctions.{Defined, Gone, declared_all, with_signature, no_frame, in_body, next_types, past_initialiser, with_body, with_known, with_function, after_item, after_items, at_start, gone_by, elaborated}
+use Rattle.bounds_plan.specs.meaning.Core.{Null}
+use Rattle.bounds_plan.specs.laws.Roots.{NamesStatement}
+use Rattle.bounds_plan.specs.elaboration.Source.{Meanings, SourceLayout, Signature, Around, Reached, past_declaration, past_member, declared_at, bind_at, function_number}
+use Rattle.bounds_plan.specs.elaboration.Places.{InMemory}
+use Rattle.bounds_plan.specs.elaboration.Expressions.{expression}
+use Rattle.bounds_plan.specs.elaboration.Initialisers.{initialiser}
+use Rattle.bounds_plan.specs.elaboration.Statements.{declarations, statement_by, maybe, past_counts}
+use Rattle.bounds_plan.specs.elaboration.Functions.{Defined, Gone, declared_all, with_signature, no_frame, in_body, next_types, past_initialiser, with_body, with_known, with_function, after_item, after_items, at_start, gone_by, elaborated}
 use Rattle.c_accepted.specs.Literals.{HasSize, IsWholeText}
 use Rattle.c_accepted.specs.SourceLiterals.{counts_sizes, decls_sizes, declared_sizes, bodies, body_sizes, known_sizes, item_sizes, items_sizes, literal_sizes, AllNameLiterals, AllNameWholeLiterals}
 use Rattle.c_accepted.proofs.Literals.{Stand, all_stand, first_stand}

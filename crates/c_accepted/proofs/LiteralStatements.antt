@@ -7,12 +7,12 @@ use Rattle.c_tree.specs.declared.tree.Stmt.{Stmt}
 use Rattle.c_tree.specs.declared.tree.StmtKind.{StmtKind-F}
 use Rattle.c_tree.specs.declared.tree.StmtKind.TheOpen as s
 use Rattle.c_tree.proofs.Inductions.{StmtA, StmtB, bare_stmts, every_stmts, stmts_fused}
-use Rattle.bounds_plan.specs.Roots.{Names, NamesEffect, NamesStatement}
-use Rattle.bounds_plan.specs.ElaborateTypes.{number_in, given}
-use Rattle.bounds_plan.specs.ElaborateSource.{Reached, Around, declared_at, bind_at, local_number, past_declaration}
-use Rattle.bounds_plan.specs.ElaborateExpressions.{expression}
-use Rattle.bounds_plan.specs.ElaborateInitialisers.{initialiser}
-use Rattle.bounds_plan.specs.ElaborateStatements.{Stating, done_by, tested_by, maybe, past_counts, local_of, declared, returned_by, all_stated, stmt_step, statement_by}
+use Rattle.bounds_plan.specs.laws.Roots.{Names, NamesEffect, NamesStatement}
+use Rattle.bounds_plan.specs.elaboration.Types.{number_in, given}
+use Rattle.bounds_plan.specs.elaboration.Source.{Reached, Around, declared_at, bind_at, local_number, past_declaration}
+use Rattle.bounds_plan.specs.elaboration.Expressions.{expression}
+use Rattle.bounds_plan.specs.elaboration.Initialisers.{initialiser}
+use Rattle.bounds_plan.specs.elaboration.Statements.{Stating, done_by, tested_by, maybe, past_counts, local_of, declared, returned_by, all_stated, stmt_step, statement_by}
 use Rattle.c_accepted.specs.Literals.{text_sizes, IsWholeText}
 use Rattle.c_accepted.specs.SourceLiterals.{maybe_sizes, counts_sizes, declared_sizes, Listed, all_sizes, listed_step, listed}
 use Rattle.c_accepted.proofs.Sizing.{variable_named}

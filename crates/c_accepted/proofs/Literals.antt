@@ -2,7 +2,7 @@
 use Rattle.std.proofs.Common.{◌≡◌, inl, inr, ℕ, suc, ◌+◌, refl, sym, ap, ◌∙◌, subst, List, [], ◌∷◌, ◌++◌, map, length, length-append, arith}
 use Rattle.std.specs.Prelude.{Option, None, Some, slice_get}
 use Rattle.mx_base.specs.declared.places.Place.{Place}
-use Rattle.mx_base.specs.Operators.{arithmetic_at, comparison_at}
+use Rattle.mx_base.specs.declared.operators.Arithmetic.{Arithmetic}
 use Rattle.c_tree.specs.declared.tree.Expr.{Expr, Expr-F, fold-Expr}
 use Rattle.c_tree.specs.declared.tree.ExprKind.{ExprKind-F}
 use Rattle.c_tree.specs.declared.tree.ExprKind.TheOpen as e
@@ -11,13 +11,13 @@ use Rattle.c_tree.proofs.Inductions.{ExprA, ExprB, bare_exprs, every_exprs, expr
 use Rattle.c_types.specs.Types.{CType}
 use Rattle.c_check_rules.specs.declared.predeclared.Bind.{Bind}
 use Rattle.c_check_rules.specs.declared.predeclared.Bind.TheVariants as d
-use Rattle.bounds_plan.specs.ElaborateTypes.{sort_of}
-use Rattle.bounds_plan.specs.ElaborateSource.{Reached, Around, kind_at, bind_at, past_kind, past_name}
-use Rattle.bounds_plan.specs.ElaborateExpressions.{Found, Reading, named, called, find_all, assign_by, binary, chosen_as, member, arrow, index, step, expression}
+use Rattle.bounds_plan.specs.elaboration.Types.{sort_of}
+use Rattle.bounds_plan.specs.elaboration.Source.{Reached, Around, kind_at, bind_at, past_kind, past_name}
+use Rattle.bounds_plan.specs.elaboration.Expressions.{Found, Reading, named, called, find_all, assign_by, binary, chosen_as, member, arrow, index, step, expression}
 use Rattle.c_accepted.specs.Literals.{joined, sizes_step, text_sizes, HasSize, IsWholeText, NamesTexts}
 use Rattle.c_accepted.proofs.Gives.{named_gives, unary_gives}
 use Rattle.c_accepted.proofs.Sizing.{variable_named}
-use Rattle.c_accepted.proofs.Closing.{NamesFound, AllFound_name, no_place_names, a_place_names, unary_names, binary_as_names, chosen_names, assign_names, stepped_names, cast_names, called_names, index_names, pointer_names}
+use Rattle.c_accepted.proofs.Closing.{NamesFound, AllFound_name, no_place_names, a_place_names, unary_names, binary_names, chosen_names, assign_names, stepped_names, cast_names, called_names, index_names, pointer_names}
 
 -- ---- the two folds beside each other
 
@@ -99,7 +99,7 @@ module _ (T : ℕ → ℕ → Type 0) where
   counts_all [] around r = nothing_counted r.literal
   counts_all (a ∷ more) around r = let one = a.1.0 around r in let two = counts_all more around (a.0.1 around r).after in let both = length-append a.0.0 (joined (sizes more)) in omega (arith, one, two, both)
 
-  after_assign : (op : Option ℕ) (around : Around) (a b : Found) (place : Place) (after : Reached) → (assign_by op around a b place after).after ≡ after
+  after_assign : (op : Option Arithmetic) (around : Around) (a b : Found) (place : Place) (after : Reached) → (assign_by op around a b place after).after ≡ after
   after_assign None around a b place after = refl
   after_assign (Some op) around a b place after = refl
 
@@ -139,8 +139,8 @@ module _ (T : ℕ → ℕ → Type 0) where
   names_bound around type (d.Global number) place after = a_place_names _ _ _ type _ place after (inl record { number = number; at = refl; begins = refl })
   names_bound around type (d.Local number) place after = a_place_names _ _ _ type _ place after (variable_named (IsWholeText T around.layout) around.structs around.variables around.stands 0 number)
   names_bound around type (d.Fun number) place after = no_place_names _ _ _ type _ place after (inr (inl record { number = number; at = refl; begins = refl; has = refl }))
-  names_bound around type (d.Service number) place after = no_place_names _ _ _ type _ place after tt
-  names_bound around type (d.Builtin number) place after = no_place_names _ _ _ type _ place after tt
+  names_bound around type (d.Service service) place after = no_place_names _ _ _ type _ place after tt
+  names_bound around type (d.Builtin builtin) place after = no_place_names _ _ _ type _ place after tt
 
   names_step : (y : ExprKind-F GoodA GoodB) (place : Place) → NamesAsSized ((step_sized (bare y)).0, (step_sized (bare y)).1 place)
   names_step (e.Number k kind) place around r h = no_place_names _ _ _ _ _ place _ tt
@@ -148,7 +148,7 @@ module _ (T : ℕ → ℕ → Type 0) where
   names_step (e.Var name) place around r h = names_bound around (kind_at around r) (bind_at around r) place _
   names_step (e.Unary op a) place around r h = unary_names _ _ _ op _ (a.0.1 around r) place _ (a.1.1 around r h)
   names_step (e.Binary op a c) place around r h = let x = a.0.1 around r in let y = c.0.1 around x.after in
-      no_place_names _ _ _ _ (binary op around x y) place _ (binary_as_names _ _ _ (arithmetic_at op) (comparison_at op) op around x y (names_first a c.0.0 around r h) (names_second a c around r h))
+      no_place_names _ _ _ _ (binary op around x y) place _ (binary_names _ _ _ op around x y (names_first a c.0.0 around r h) (names_second a c around r h))
   names_step (e.Assign op a c) place around r h = let x = a.0.1 around r in assign_names _ _ _ op around x (c.0.1 around x.after) place _ (names_first a c.0.0 around r h) (names_second a c around r h)
   names_step (e.StepBy up before a) place around r h = stepped_names _ _ _ around up before (a.0.1 around r) place _ (a.1.1 around r h)
   names_step (e.Cond c a d) place around r h = let x = c.0.1 around r in let y = a.0.1 around x.after in let z = d.0.1 around y.after in let others = after_first c (a.0.0 ++ d.0.0) around r h in

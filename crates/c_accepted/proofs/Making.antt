@@ -6,12 +6,12 @@ use Rattle.mx_base.specs.declared.settings.Flags.{Flags}
 use Rattle.c_tree.specs.declared.tree.Tree.{Tree}
 use Rattle.c_check.specs.Accepted.{after}
 use Rattle.c_check.specs.Standing.{structs_seen}
-use Rattle.bounds_plan.specs.Compiled.{sorts_of}
-use Rattle.bounds_plan.specs.Functions.{FunctionOfC, Linked}
-use Rattle.bounds_plan.specs.Roots.{NamesStatement, ObjectMade, IsFramed, ParametersFramed, NamesWhatIsMade, AllMade}
-use Rattle.bounds_plan.specs.ElaborateSource.{SourceLayout, Meanings}
-use Rattle.bounds_plan.specs.ElaborateFunctions.{Defined, elaborated}
-use Rattle.bounds_plan.specs.ElaborateLaws.{IsFunction, IsLiteral, NamesItsOwn, AllNameTheirOwn}
+use Rattle.bounds_plan.specs.steps.Compiled.{sorts_of}
+use Rattle.bounds_plan.specs.meaning.Functions.{FunctionOfC, Linked}
+use Rattle.bounds_plan.specs.laws.Roots.{NamesStatement, ObjectMade, IsFramed, ParametersFramed, NamesWhatIsMade, AllMade}
+use Rattle.bounds_plan.specs.elaboration.Source.{SourceLayout, Meanings}
+use Rattle.bounds_plan.specs.elaboration.Functions.{Defined, elaborated}
+use Rattle.bounds_plan.specs.elaboration.Laws.{IsFunction, IsLiteral, NamesItsOwn, AllNameTheirOwn}
 use Rattle.c_accepted.specs.Alike.{meanings_of}
 use Rattle.c_accepted.specs.Frames.{AllFramed}
 use Rattle.c_accepted.specs.Linked.{Source, defined_by, IsOneOf, IsLinked}

@@ -11,8 +11,8 @@ use Rattle.c_check_typing.specs.declared.typed.Notes.{Notes}
 use Rattle.c_check_typing.specs.Notes.{Own, leaf}
 use Rattle.c_check_typing.specs.Rules.{function_named, name_own, call_with, call_own}
 use Rattle.c_check_typing.specs.Expressions.{Arguments, call_seen}
-use Rattle.bounds_plan.specs.Roots.{Begins}
-use Rattle.bounds_plan.specs.ElaborateSource.{Reached, Around, bind_at}
+use Rattle.bounds_plan.specs.laws.Roots.{Begins}
+use Rattle.bounds_plan.specs.elaboration.Source.{Reached, Around, bind_at}
 use Rattle.c_accepted.specs.Alike.{meanings_of, IsAt, Front, MeansIt}
 use Rattle.c_accepted.proofs.Empty.{second_empty, none_at}
 use Rattle.c_accepted.proofs.Going.{got_behind}
@@ -27,8 +27,8 @@ function_noted : (functions : Bool) (bind : Bind) (result : CType) (params : Lis
 function_noted true (d.Fun number) result params h = record { bind = d.Fun number; means = refl; notes = λ n. refl }
 function_noted true (d.Global number) result params h = cc
 function_noted true (d.Local number) result params h = cc
-function_noted true (d.Service number) result params h = cc
-function_noted true (d.Builtin number) result params h = cc
+function_noted true (d.Service service) result params h = cc
+function_noted true (d.Builtin builtin) result params h = cc
 function_noted false bind result params h = cc
 
 name_noted : (functions : Bool) (found : Found) → (name_own functions found).broken ≡ [] → NotesName found (name_own functions found)

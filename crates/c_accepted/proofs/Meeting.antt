@@ -6,10 +6,10 @@ use Rattle.c_tree.specs.Formed.{IsFormed}
 use Rattle.c_tree.proofs.FewStars.{formed_has_few_stars}
 use Rattle.c_check.specs.Accepted.{IsAccepted, after}
 use Rattle.c_check.proofs.StandingItems.{numbered_source}
-use Rattle.bounds_plan.specs.ElaborateSource.{SourceLayout}
-use Rattle.bounds_plan.specs.ElaborateFunctions.{Defined, elaborated, signatures_of}
-use Rattle.bounds_plan.specs.ElaborateWaits.{items_waits}
-use Rattle.bounds_plan.specs.ElaborateLaws.{AllFit, AllNeed, AllCopyInside, AllAssignable}
+use Rattle.bounds_plan.specs.elaboration.Source.{SourceLayout}
+use Rattle.bounds_plan.specs.elaboration.Functions.{Defined, elaborated, signatures_of}
+use Rattle.bounds_plan.specs.elaboration.Waits.{items_waits}
+use Rattle.bounds_plan.specs.elaboration.Laws.{AllFit, AllNeed, AllCopyInside, AllAssignable}
 use Rattle.bounds_plan.proofs.Copying.{elaborated_whole}
 use Rattle.bounds_plan.proofs.Few.{few_parameters}
 use Rattle.bounds_plan.proofs.FittingItems.{elaborated_fit}

@@ -14,9 +14,9 @@ use Rattle.c_check_statements.specs.Initialisers.{struct_members}
 use Rattle.c_check_statements.specs.Structs.{kinds_in}
 use Rattle.c_check_statements.specs.Walks.{Walk, ◌then◌, at_node, seen_in, past, reads, maybe_reads}
 use Rattle.c_check.specs.Standing.{structs_from, structs_seen}
-use Rattle.bounds_plan.specs.ElaborateSource.{Meanings, Reached, Around}
-use Rattle.bounds_plan.specs.ElaborateExpressions.{expression}
-use Rattle.bounds_plan.specs.ElaborateStatements.{maybe, done_by, tested_by}
+use Rattle.bounds_plan.specs.elaboration.Source.{Meanings, Reached, Around}
+use Rattle.bounds_plan.specs.elaboration.Expressions.{expression}
+use Rattle.bounds_plan.specs.elaboration.Statements.{maybe, done_by, tested_by}
 use Rattle.c_accepted.specs.Alike.{meanings_of, IsAt, Front}
 use Rattle.c_accepted.proofs.Empty.{first_empty, second_empty}
 use Rattle.c_accepted.proofs.Going.{nothing_more, front_itself, front_then, Goes}

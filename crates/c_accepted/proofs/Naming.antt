@@ -9,7 +9,7 @@ use Rattle.c_check_rules.specs.declared.names.Function.{Function}
 use Rattle.c_check_rules.specs.Kinds.{same_kinds}
 use Rattle.c_check_rules.specs.Names.{last_at, function_names, function_at, numbered}
 use Rattle.c_check_statements.specs.Declarations.{param_kinds, same_lists, blocks_function, function_in, function_twice, put_function, number_in, function_number, is_reserved}
-use Rattle.bounds_plan.specs.ElaborateSource.{Signature}
+use Rattle.bounds_plan.specs.elaboration.Source.{Signature}
 use Rattle.c_accepted.specs.Alike.{signature_seen, signatures_seen}
 use Rattle.c_accepted.proofs.Empty.{neither}
 use Rattle.c_accepted.proofs.Heads.{both_true, same_type, same_types}

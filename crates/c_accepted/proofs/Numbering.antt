@@ -2,6 +2,7 @@
 use Rattle.std.proofs.Common.{◌≡◌, ℕ, zero, suc, ◌+◌, refl, ap, ◌∙◌, List, [], ◌∷◌, map}
 use Rattle.std.specs.Prelude.{Option, None, Some}
 use Rattle.mx_base.specs.declared.places.Place.{Place}
+use Rattle.mx_base.specs.declared.operators.Arithmetic.{Arithmetic}
 use Rattle.c_tree.specs.declared.tree.Decl.{Decl}
 use Rattle.c_tree.specs.declared.tree.Expr.{Expr}
 use Rattle.c_tree.specs.declared.tree.ExprKind.{ExprKind-F}
@@ -15,13 +16,13 @@ use Rattle.c_tree.specs.declared.tree.StmtKind.TheOpen as s
 use Rattle.c_tree.proofs.Inductions.{ExprA, ExprB, bare_exprs, every_exprs, InitA, InitB, bare_inits, every_inits, StmtA, StmtB, bare_stmts, every_stmts}
 use Rattle.c_types.specs.Types.{CType, Void, Int, Pointer, Array, Struct, members_of}
 use Rattle.c_types.specs.Layouts.{layout_of, offsets_from}
-use Rattle.bounds_plan.specs.ElaborateTypes.{size_in}
-use Rattle.bounds_plan.specs.ElaborateSource.{Reached, Around, kind_at, bind_at, declared_at, past_name, past_kind, past_declaration, local_number}
-use Rattle.bounds_plan.specs.ElaboratePlaces.{Lvalue}
-use Rattle.bounds_plan.specs.ElaborateExpressions.{Found, Reading, assign_by, find_all, step, expression}
-use Rattle.bounds_plan.specs.ElaborateInitialisers.{Filling, after_one, elements_filled, members_filled, many_filled, init_step, initialiser}
-use Rattle.bounds_plan.specs.ElaborateStatements.{Stating, done_by, tested_by, maybe, past_counts, local_of, declared, returned_by, all_stated, stmt_step, statement_by}
-use Rattle.bounds_plan.specs.ElaborateFunctions.{declared_all}
+use Rattle.bounds_plan.specs.elaboration.Types.{size_in}
+use Rattle.bounds_plan.specs.elaboration.Source.{Reached, Around, kind_at, bind_at, declared_at, past_name, past_kind, past_declaration, local_number}
+use Rattle.bounds_plan.specs.elaboration.Places.{Lvalue}
+use Rattle.bounds_plan.specs.elaboration.Expressions.{Found, Reading, assign_by, find_all, step, expression}
+use Rattle.bounds_plan.specs.elaboration.Initialisers.{Filling, after_one, elements_filled, members_filled, many_filled, init_step, initialiser}
+use Rattle.bounds_plan.specs.elaboration.Statements.{Stating, done_by, tested_by, maybe, past_counts, local_of, declared, returned_by, all_stated, stmt_step, statement_by}
+use Rattle.bounds_plan.specs.elaboration.Functions.{declared_all}
 use Rattle.c_accepted.proofs.Gives.{named_gives, unary_gives}
 
 -- ---- expressions
@@ -32,7 +33,7 @@ Same read = (around : Around) (r : Reached) → (read around r).after.body ≡ r
 abbrev SameAt : (Place → Reading) → Type 0
 SameAt read = (place : Place) → Same (read place)
 
-assign_after : (op : Option ℕ) (around : Around) (a b : Found) (place : Place) (after : Reached) → (assign_by op around a b place after).after ≡ after
+assign_after : (op : Option Arithmetic) (around : Around) (a b : Found) (place : Place) (after : Reached) → (assign_by op around a b place after).after ≡ after
 assign_after None around a b place after = refl
 assign_after (Some op) around a b place after = refl
 

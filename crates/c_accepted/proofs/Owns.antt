@@ -4,6 +4,10 @@ use Rattle.std.specs.Prelude.{Option, None, Some}
 use Rattle.mx_base.specs.declared.numbers.IntKind.{IntKind}
 use Rattle.c_tree.specs.declared.tree.Base.{Base}
 use Rattle.c_types.specs.Types.{CType, Pointer}
+use Rattle.mx_base.specs.declared.operators.Arithmetic.{Arithmetic}
+use Rattle.c_tree.specs.declared.operators.UnaryOp.{UnaryOp}
+use Rattle.c_tree.specs.declared.operators.UnaryOp.TheVariants as u
+use Rattle.c_tree.specs.declared.operators.BinaryOp.{BinaryOp}
 use Rattle.c_check_rules.specs.declared.kinds.Outer.{Outer}
 use Rattle.c_check_rules.specs.declared.kinds.Outer.TheVariants as o
 use Rattle.c_check_rules.specs.declared.constants.Constant.{Constant}
@@ -70,7 +74,7 @@ text_fine bytes = fine_either (nat_lt (length bytes) limit) _ _ (literal_fine by
 
 -- ---- operators of one operand
 
-sign_fine : (op : ℕ) (form : Outer) (constant : Constant) → Fine (sign_own op form constant)
+sign_fine : (op : UnaryOp) (form : Outer) (constant : Constant) → Fine (sign_own op form constant)
 sign_fine op o.Void constant = fine_wrong _
 sign_fine op (o.Int k) constant = fine_fine _
 sign_fine op o.Pointer constant = fine_wrong _
@@ -84,13 +88,17 @@ taken_notes (Some local) n = refl
 address_fine : (a : Typed) → Fine (address_own a)
 address_fine a = fine_either a.is_place _ _ (λ h. record { typed = value (Pointer a.kind) _; is = refl; notes = λ n. ap (added (Pointer a.kind) None) (taken_notes a.local n); kind = tt }) (fine_wrong _)
 
-pub unary_fine : (structs : List StructInfo) (op : ℕ) (a : Typed) → Fine (unary_own structs op a)
+pub unary_fine : (structs : List StructInfo) (op : UnaryOp) (a : Typed) → Fine (unary_own structs op a)
 unfolding unary_own
-unary_fine structs op a = fine_either (op == 4) _ _ (address_fine a) (fine_either (op == 3) _ _ (fine_either _ _ _ (fine_fine _) (fine_wrong _)) (fine_either (op == 2) _ _ (fine_either _ _ _ (fine_fine _) (fine_wrong _)) (sign_fine op _ a.constant)))
+unary_fine structs u.Neg a = sign_fine u.Neg _ a.constant
+unary_fine structs u.BitNot a = sign_fine u.BitNot _ a.constant
+unary_fine structs u.Not a = fine_either _ _ _ (fine_fine _) (fine_wrong _)
+unary_fine structs u.Deref a = fine_either _ _ _ (fine_fine _) (fine_wrong _)
+unary_fine structs u.AddressOf a = address_fine a
 
 -- ---- operators of two and three operands
 
-pub binary_fine : (structs : List StructInfo) (op : ℕ) (a e : Typed) → Fine (binary_own structs op a e)
+pub binary_fine : (structs : List StructInfo) (op : BinaryOp) (a e : Typed) → Fine (binary_own structs op a e)
 unfolding binary_own
 binary_fine structs op a e = of_kind_fine _ _
 
@@ -100,7 +108,7 @@ choice_fine test a e = fine_either _ _ _ (of_kind_fine _ _) (fine_wrong _)
 
 -- ---- assignments
 
-pub assign_fine : (structs : List StructInfo) (op : Option ℕ) (a e : Typed) → (assign_own structs op a e).broken ≡ [] → IsFine (assign_own structs op a e) None (λ kind. a.kind ≡ kind)
+pub assign_fine : (structs : List StructInfo) (op : Option Arithmetic) (a e : Typed) → (assign_own structs op a e).broken ≡ [] → IsFine (assign_own structs op a e) None (λ kind. a.kind ≡ kind)
 unfolding assign_own
 assign_fine structs op a e h = judged_fine _ _ (λ kind. a.kind ≡ kind) refl h
 
@@ -162,8 +170,8 @@ function_fine : (functions : Bool) (bind : Bind) → (function_named functions b
 function_fine true (d.Fun number) h = named_fine (d.Fun number) _
 function_fine true (d.Global number) h = cc
 function_fine true (d.Local number) h = cc
-function_fine true (d.Service number) h = cc
-function_fine true (d.Builtin number) h = cc
+function_fine true (d.Service service) h = cc
+function_fine true (d.Builtin builtin) h = cc
 function_fine false bind h = cc
 
 pub name_fine : (functions : Bool) (found : Found) → (name_own functions found).broken ≡ [] → FineName (name_own functions found)

@@ -17,7 +17,7 @@ use Rattle.c_check.specs.Symbols.{named}
 use Rattle.c_check.specs.Standing.{structs_seen}
 use Rattle.place_plan.specs.Frames.{values_of, spot_at, free_after, spots_from, nothing_taken, frame_plan}
 use Rattle.place_plan.specs.Source.{variable_known, body_known, plan_of}
-use Rattle.bounds_plan.specs.ElaborateFunctions.{elaborated, signatures_of}
+use Rattle.bounds_plan.specs.elaboration.Functions.{elaborated, signatures_of}
 use Rattle.c_accepted.specs.Alike.{meanings_of, signatures_seen}
 use Rattle.c_accepted.specs.Frames.{StandAs, AllStand, AllPlanned}
 use Rattle.c_accepted.specs.Linked.{defined_by, CanBeLinked}

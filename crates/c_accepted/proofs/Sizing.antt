@@ -2,6 +2,8 @@
 use Rattle.std.proofs.Common.{◌≡◌, inl, inr, ℕ, zero, suc, ◌+◌, ◌<◌, ◌≤◌, ◌==◌, nat_lt, refl, sym, ap, subst, Bool, true, false, List, [], ◌∷◌, length, if◌then◌else◌, arith}
 use Rattle.std.specs.Prelude.{Option, None, Some, slice_get, ◌-◌}
 use Rattle.mx_base.specs.declared.places.Place.{Place}
+use Rattle.mx_base.specs.declared.services.CService.{CService}
+use Rattle.mx_base.specs.declared.services.CService.TheVariants as in_c
 use Rattle.c_types.specs.Types.{CType, Void, StructType}
 use Rattle.c_check_rules.specs.declared.names.Scope.{Scope}
 use Rattle.c_check_rules.specs.declared.names.Variable.{Variable}
@@ -12,14 +14,16 @@ use Rattle.c_check_rules.specs.declared.predeclared.Bind.TheVariants as d
 use Rattle.c_check_rules.specs.declared.predeclared.Found.{Found as FoundName}
 use Rattle.c_check_rules.specs.declared.predeclared.Found.TheVariants as f
 use Rattle.c_check_rules.specs.Names.{numbered, found_in, among_locals, among_variables, among_functions, local_found, variable_found, function_found, local_at, variable_at, function_at}
-use Rattle.c_check_rules.specs.Predeclared.{predeclared_at, predeclared_by, service, builtin}
+use Rattle.c_check_rules.specs.declared.predeclared.Builtin.{Builtin}
+use Rattle.c_check_rules.specs.declared.predeclared.Builtin.TheVariants as on_bounds
+use Rattle.c_check_rules.specs.Predeclared.{service_named, builtin_named, predeclared_by, service, builtin}
 use Rattle.c_check_typing.specs.declared.typed.Notes.{Notes}
 use Rattle.c_check_typing.specs.Notes.{leaf, with_kind, with_bind}
 use Rattle.c_check_typing.specs.Rules.{function_named, name_own}
-use Rattle.bounds_plan.specs.ElaborateTypes.{Sort, ANumber, APointer, AWhole, NoValue, sort_of, size_in}
-use Rattle.bounds_plan.specs.ElaboratePlaces.{Lvalue, private_values_of, variable_at as placed_at, variable_of}
-use Rattle.bounds_plan.specs.ElaborateSource.{Stand, Private, Frame, Reached, Around, kind_at, bind_at}
-use Rattle.bounds_plan.specs.ElaborateExpressions.{Found, named}
+use Rattle.bounds_plan.specs.elaboration.Types.{Sort, ANumber, APointer, AWhole, NoValue, sort_of, size_in}
+use Rattle.bounds_plan.specs.elaboration.Places.{Lvalue, private_values_of, variable_at as placed_at, variable_of}
+use Rattle.bounds_plan.specs.elaboration.Source.{Stand, Private, Frame, Reached, Around, kind_at, bind_at}
+use Rattle.bounds_plan.specs.elaboration.Expressions.{Found, named}
 use Rattle.c_accepted.specs.Alike.{meanings_of, IsAt, Front}
 use Rattle.c_accepted.specs.Wholes.{HasItsType, HasNumber, StayGlobals, IsWhole}
 use Rattle.c_accepted.proofs.Empty.{none_at}
@@ -40,31 +44,34 @@ abbrev pub IsKnown : List Variable → Bind → CType → Type 0
 IsKnown variables (d.Global number) kind = HasNumber variables number kind
 IsKnown variables (d.Local number) kind = Unit {0}
 IsKnown variables (d.Fun number) kind = Unit {0}
-IsKnown variables (d.Service number) kind = Unit {0}
-IsKnown variables (d.Builtin number) kind = Unit {0}
+IsKnown variables (d.Service service) kind = Unit {0}
+IsKnown variables (d.Builtin builtin) kind = Unit {0}
 
 abbrev pub FoundKnown : List Variable → FoundName → Type 0
 FoundKnown variables f.Missing = Unit {0}
 FoundKnown variables (f.Variable bind kind) = IsKnown variables bind kind
 FoundKnown variables (f.Callable bind result params) = Unit {0}
 
-record IsFound (variables : List Variable) (found : FoundName) : Type 0 where
-  is : FoundKnown variables found
+service_known : (variables : List Variable) (service_of : CService) → FoundKnown variables (service service_of)
+service_known variables in_c.Print = tt
+service_known variables in_c.Put = tt
+service_known variables in_c.Get = tt
+service_known variables in_c.Alloc = tt
+service_known variables in_c.Free = tt
+service_known variables in_c.Exit = tt
 
-found_if : (variables : List Variable) (b : Bool) (x y : FoundName) → IsFound variables x → IsFound variables y → IsFound variables (if b then x else y)
-found_if variables true x y h k = h
-found_if variables false x y h k = k
+builtin_known : (variables : List Variable) (builtin_of : Builtin) → FoundKnown variables (builtin builtin_of)
+builtin_known variables on_bounds.SetBounds = tt
+builtin_known variables on_bounds.NarrowBounds = tt
+builtin_known variables on_bounds.CopyBounds = tt
+builtin_known variables on_bounds.InitBounds = tt
+builtin_known variables on_bounds.LowerBound = tt
+builtin_known variables on_bounds.UpperBound = tt
 
-service_found : (variables : List Variable) (n : ℕ) → IsFound variables (service n)
-service_found variables n = found_if variables (n == 0) _ _ record { is = tt } (found_if variables (n == 1) _ _ record { is = tt } (found_if variables (n == 2) _ _ record { is = tt }
-    (found_if variables (n == 3) _ _ record { is = tt } (found_if variables (n == 4) _ _ record { is = tt } record { is = tt }))))
-
-builtin_found : (variables : List Variable) (n : ℕ) → IsFound variables (builtin n)
-builtin_found variables n = found_if variables (n == 0) _ _ record { is = tt } (found_if variables (n == 1) _ _ record { is = tt } (found_if variables (n == 2) _ _ record { is = tt } record { is = tt }))
-
-predeclared_known : (variables : List Variable) (at : Option ℕ) → FoundKnown variables (predeclared_by at)
-predeclared_known variables None = tt
-predeclared_known variables (Some n) = (found_if variables (nat_lt n 6) (service n) (builtin (n - 6)) (service_found variables n) (builtin_found variables (n - 6))).is
+predeclared_known : (variables : List Variable) (as_service : Option CService) (as_builtin : Option Builtin) → FoundKnown variables (predeclared_by as_service as_builtin)
+predeclared_known variables (Some p) q = service_known variables p
+predeclared_known variables None (Some q) = builtin_known variables q
+predeclared_known variables None None = tt
 
 local_known : (variables : List Variable) (x : Option LocalName) → FoundKnown variables (local_found x)
 local_known variables None = tt
@@ -89,7 +96,7 @@ variable_known variables known at (Some x) k e = let there = k.stay at x.kind re
 
 module _ (scope : Scope) (variables : List Variable) (few : KnownBy variables scope.variables) (name : List ℕ) where
   in_functions : (at : Option ℕ) → FoundKnown variables (among_functions scope name at)
-  in_functions None = predeclared_known variables (predeclared_at name)
+  in_functions None = predeclared_known variables (service_named name) (builtin_named name)
   in_functions (Some at) = function_known variables at (slice_get scope.functions at)
 
   in_variables : (at : Option ℕ) → FoundKnown variables (among_variables scope name at)
@@ -133,8 +140,8 @@ named_whole : (variables : List Variable) (around : Around) (type : CType) (bind
 named_whole variables around type (d.Global number) place after h = a_place_names _ _ _ type _ place after (inl record { number = number; variable = h.variable; known = h.known; at = refl; begins = refl; has = ap (size_in around.structs) (sym h.has) })
 named_whole variables around type (d.Local number) place after h = a_place_names _ _ _ type _ place after (variable_named (IsWhole variables around.structs around.layout) around.structs around.variables around.stands 0 number)
 named_whole variables around type (d.Fun number) place after h = no_place_names _ _ _ type _ place after (inr (inl record { number = number; at = refl; begins = refl; has = refl }))
-named_whole variables around type (d.Service number) place after h = no_place_names _ _ _ type _ place after tt
-named_whole variables around type (d.Builtin number) place after h = no_place_names _ _ _ type _ place after tt
+named_whole variables around type (d.Service service) place after h = no_place_names _ _ _ type _ place after tt
+named_whole variables around type (d.Builtin builtin) place after h = no_place_names _ _ _ type _ place after tt
 
 kind_there : (bind : Bind) (kind : CType) (n : Notes) (around : Around) (r : Reached) → Front (meanings_of (with_kind kind (with_bind bind n))) around.meanings → IsAt r (meanings_of n) → kind_at around r ≡ kind
 kind_there bind kind n around r w at = got_behind n.kinds around.meanings.kinds kind Void r.kind w.kinds at.kind
@@ -152,8 +159,8 @@ fun_whole : (variables : List Variable) (functions : Bool) (bind : Bind) (place 
 fun_whole variables true (d.Fun number) place after h n around r w at = bound_whole variables (d.Fun number) _ place after tt n around r w at
 fun_whole variables true (d.Global number) place after h n around r w at = cc
 fun_whole variables true (d.Local number) place after h n around r w at = cc
-fun_whole variables true (d.Service number) place after h n around r w at = cc
-fun_whole variables true (d.Builtin number) place after h n around r w at = cc
+fun_whole variables true (d.Service service) place after h n around r w at = cc
+fun_whole variables true (d.Builtin builtin) place after h n around r w at = cc
 fun_whole variables false bind place after h n around r w at = cc
 
 own_whole : (variables : List Variable) (functions : Bool) (found : FoundName) (place : Place) (after : Reached) → FoundKnown variables found → (name_own functions found).broken ≡ [] → (n : Notes) (around : Around) (r : Reached) → Front (meanings_of ((name_own functions found).noted n)) around.meanings → IsAt r (meanings_of n)

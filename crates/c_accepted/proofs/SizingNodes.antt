@@ -2,7 +2,6 @@
 use Rattle.std.proofs.Common.{◌≡◌, inr, ℕ, ◌≤◌, refl, sym, ap, subst, Bool, true, false, List, [], ◌∷◌, ◌++◌, map, length}
 use Rattle.std.specs.Prelude.{Option, None, Some}
 use Rattle.mx_base.specs.declared.places.Place.{Place}
-use Rattle.mx_base.specs.Operators.{arithmetic_at, comparison_at}
 use Rattle.c_tree.specs.declared.tree.Expr.{Expr}
 use Rattle.c_tree.specs.declared.tree.ExprKind.{ExprKind-F}
 use Rattle.c_tree.specs.declared.tree.ExprKind.TheOpen as e
@@ -15,15 +14,15 @@ use Rattle.c_check_typing.specs.declared.typed.Notes.{Notes}
 use Rattle.c_check_typing.specs.Notes.{Own, one, two, three}
 use Rattle.c_check_typing.specs.Rules.{params_of, params_after, takes_function, call_own}
 use Rattle.c_check_typing.specs.Expressions.{Reading as Checking, arguments, and_fits, call, seen}
-use Rattle.bounds_plan.specs.ElaborateTypes.{sort_of}
-use Rattle.bounds_plan.specs.ElaborateSource.{Reached, Around, kind_at, bind_at}
-use Rattle.bounds_plan.specs.ElaborateExpressions.{Reading, called, find_all, binary, chosen_as, member, arrow, index, step, expression}
+use Rattle.bounds_plan.specs.elaboration.Types.{sort_of}
+use Rattle.bounds_plan.specs.elaboration.Source.{Reached, Around, kind_at, bind_at}
+use Rattle.bounds_plan.specs.elaboration.Expressions.{Reading, called, find_all, binary, chosen_as, member, arrow, index, step, expression}
 use Rattle.c_tree.proofs.Inductions.{ExprA, ExprB, bare_exprs, every_exprs}
 use Rattle.c_accepted.specs.Alike.{meanings_of, IsAt, Front}
 use Rattle.c_accepted.specs.Wholes.{IsWhole, NamesWholes}
 use Rattle.c_accepted.proofs.Empty.{first_empty, second_empty, none_at}
 use Rattle.c_accepted.proofs.Going.{front_then}
-use Rattle.c_accepted.proofs.Closing.{AllFound_name, no_place_names, a_place_names, unary_names, binary_as_names, chosen_names, assign_names, stepped_names, cast_names, called_names, index_names, pointer_names}
+use Rattle.c_accepted.proofs.Closing.{AllFound_name, no_place_names, a_place_names, unary_names, binary_names, chosen_names, assign_names, stepped_names, cast_names, called_names, index_names, pointer_names}
 use Rattle.c_accepted.proofs.Owns.{IsFine, any, Fine, unary_fine, binary_fine, choice_fine, assign_fine, step_fine, index_fine, member_fine, arrow_fine, cast_fine, call_fine}
 use Rattle.c_accepted.proofs.Expressions.{front_own, fine_at, both_own, both_fine, all_own, BothA, BothB, step_both, struct_both, AreAlike, AreAlikeAt, PartsB, ArgumentsGo, arguments_go, name_at, every_step, both, checks_same, reads_same}
 use Rattle.c_accepted.proofs.Sizing.{KnownBy, Whole, found_known, name_whole}
@@ -151,7 +150,7 @@ whole_step (e.Text bytes) place functions scope h vs few n around r w at = let t
 whole_step (e.Var name) place functions scope h vs few n around r w at = name_whole vs functions (found_in scope name) place _ (found_known scope vs few name) h n around r w at
 whole_step (e.Unary op a) place functions scope h vs few n around r w at = unary_names _ _ _ op _ (a.0.1 around r) place _ (one_whole place _ scope a (unary_fine scope.structs op) h vs few n around r w at)
 whole_step (e.Binary op a c) place functions scope h vs few n around r w at = let x = a.0.1 around r in let y = c.0.1 around x.after in let k = two_whole place _ scope a c (binary_fine scope.structs op) h vs few n around r w at in
-    no_place_names _ _ _ _ (binary op around x y) place _ (binary_as_names _ _ _ (arithmetic_at op) (comparison_at op) op around x y k.0 k.1)
+    no_place_names _ _ _ _ (binary op around x y) place _ (binary_names _ _ _ op around x y k.0 k.1)
 whole_step (e.Assign op a c) place functions scope h vs few n around r w at = let x = a.0.1 around r in
     let k = two_whole place _ scope a c (λ t u free. any_fine _ _ (assign_fine scope.structs op t u free)) h vs few n around r w at in assign_names _ _ _ op around x (c.0.1 around x.after) place _ k.0 k.1
 whole_step (e.StepBy up before a) place functions scope h vs few n around r w at = stepped_names _ _ _ around up before (a.0.1 around r) place _ (one_whole place _ scope a (λ t free. any_fine _ _ (step_fine scope.structs t free)) h vs few n around r w at)

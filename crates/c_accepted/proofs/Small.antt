@@ -27,10 +27,10 @@ use Rattle.c_check_statements.specs.Statements.{maybe_statement}
 use Rattle.c_check_statements.specs.Waits.{waits_stmt as waits_checked}
 use Rattle.c_check_statements.specs.Walks.{◌then◌, walk_all, at_node, inside}
 use Rattle.c_check.specs.Accepted.{at_first, is_too_large, IsAccepted, after}
-use Rattle.bounds_plan.specs.ElaborateSource.{Meanings, SourceLayout, Stand, Private, Frame, FrameLayout}
-use Rattle.bounds_plan.specs.ElaborateFunctions.{no_frame, elaborated, signatures_of}
-use Rattle.bounds_plan.specs.ElaborateWaits.{waits_stmt, body_waits, item_waits, items_waits}
-use Rattle.bounds_plan.specs.ElaborateLaws.{TakesParameters, TakesFew, AllTakeFew, privates_in, HaveFewPrivates, AllAssignable}
+use Rattle.bounds_plan.specs.elaboration.Source.{Meanings, SourceLayout, Stand, Private, Frame, FrameLayout}
+use Rattle.bounds_plan.specs.elaboration.Functions.{no_frame, elaborated, signatures_of}
+use Rattle.bounds_plan.specs.elaboration.Waits.{waits_stmt, body_waits, item_waits, items_waits}
+use Rattle.bounds_plan.specs.elaboration.Laws.{TakesParameters, TakesFew, AllTakeFew, privates_in, HaveFewPrivates, AllAssignable}
 use Rattle.bounds_plan.proofs.Homes.{elaborated_assignable}
 use Rattle.c_accepted.specs.Frames.{AllStand, AllPlanned}
 use Rattle.c_accepted.proofs.Empty.{first_empty, second_empty, none_at, not_broken, neither, not_above}

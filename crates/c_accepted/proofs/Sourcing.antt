@@ -25,14 +25,14 @@ use Rattle.c_check_statements.specs.Statements.{maybe_statement}
 use Rattle.c_check_statements.specs.Structs.{struct_walk}
 use Rattle.c_check_statements.specs.Walks.{◌then◌, walk_all}
 use Rattle.c_check.specs.Standing.{structs_seen}
-use Rattle.bounds_plan.specs.Core.{Null}
-use Rattle.bounds_plan.specs.Roots.{Begins}
-use Rattle.bounds_plan.specs.ElaborateSource.{SourceLayout, Meanings, Reached, Around, declared_at, past_declaration, past_member}
-use Rattle.bounds_plan.specs.ElaboratePlaces.{InMemory}
-use Rattle.bounds_plan.specs.ElaborateExpressions.{expression}
-use Rattle.bounds_plan.specs.ElaborateInitialisers.{initialiser}
-use Rattle.bounds_plan.specs.ElaborateStatements.{past_counts, maybe}
-use Rattle.bounds_plan.specs.ElaborateFunctions.{Gone, declared_all, past_initialiser, after_item, after_items}
+use Rattle.bounds_plan.specs.meaning.Core.{Null}
+use Rattle.bounds_plan.specs.laws.Roots.{Begins}
+use Rattle.bounds_plan.specs.elaboration.Source.{SourceLayout, Meanings, Reached, Around, declared_at, past_declaration, past_member}
+use Rattle.bounds_plan.specs.elaboration.Places.{InMemory}
+use Rattle.bounds_plan.specs.elaboration.Expressions.{expression}
+use Rattle.bounds_plan.specs.elaboration.Initialisers.{initialiser}
+use Rattle.bounds_plan.specs.elaboration.Statements.{past_counts, maybe}
+use Rattle.bounds_plan.specs.elaboration.Functions.{Gone, declared_all, past_initialiser, after_item, after_items}
 use Rattle.c_accepted.specs.Alike.{meanings_of, IsAt, Front, signatures_seen, AllTakeWhatTheyHave, AllCopySmall}
 use Rattle.c_accepted.specs.Frames.{AllPlanned, AllFramed, AreOfBodies}
 use Rattle.c_accepted.specs.Wholes.{AllNameWholeGlobals}

@@ -19,15 +19,15 @@ use Rattle.c_check_statements.specs.Declarations.{Declared, with_local, local_nu
 use Rattle.c_check_statements.specs.Initialisers.{maybe_fills}
 use Rattle.c_check_statements.specs.Statements.{local_judged, local, enter_block, enter_body, block_by, enter_loop, looped, jump, if_walk, while_walk, tested, for_rest, return_walk, stmt_step as check_step, statement}
 use Rattle.c_check_statements.specs.Walks.{Walk, stay, ◌then◌, walk_all, at_node, inside, seen_in, reads, maybe_reads}
-use Rattle.bounds_plan.specs.Core.{Null, Statement, Skip, Do, Then, If, While, DoWhile, For, Break, Continue}
-use Rattle.bounds_plan.specs.Laws.{OfEffect, OfCopies}
-use Rattle.bounds_plan.specs.Roots.{Names, NamesEffect, NamesStatement}
-use Rattle.bounds_plan.specs.ElaborateTypes.{Value, Numeric, Address, number_in, given}
-use Rattle.bounds_plan.specs.ElaboratePlaces.{InMemory}
-use Rattle.bounds_plan.specs.ElaborateSource.{Reached, Around, declared_at, bind_at, past_declaration, local_number}
-use Rattle.bounds_plan.specs.ElaborateExpressions.{expression}
-use Rattle.bounds_plan.specs.ElaborateInitialisers.{initialiser}
-use Rattle.bounds_plan.specs.ElaborateStatements.{Stating, stated, in_order, maybe, done_by, tested_by, past_counts, local_of, declared, return_of, returned_by, all_stated, stmt_step, statement_by, total, declares as counts, declarations}
+use Rattle.bounds_plan.specs.meaning.Core.{Null, Statement, Skip, Do, Then, If, While, DoWhile, For, Break, Continue}
+use Rattle.bounds_plan.specs.laws.Laws.{OfEffect, OfCopies}
+use Rattle.bounds_plan.specs.laws.Roots.{Names, NamesEffect, NamesStatement}
+use Rattle.bounds_plan.specs.elaboration.Types.{Value, Numeric, Address, number_in, given}
+use Rattle.bounds_plan.specs.elaboration.Places.{InMemory}
+use Rattle.bounds_plan.specs.elaboration.Source.{Reached, Around, declared_at, bind_at, past_declaration, local_number}
+use Rattle.bounds_plan.specs.elaboration.Expressions.{expression}
+use Rattle.bounds_plan.specs.elaboration.Initialisers.{initialiser}
+use Rattle.bounds_plan.specs.elaboration.Statements.{Stating, stated, in_order, maybe, done_by, tested_by, past_counts, local_of, declared, return_of, returned_by, all_stated, stmt_step, statement_by, total, declares as counts, declarations}
 use Rattle.c_tree.proofs.Inductions.{StmtA, StmtB, bare_stmts, every_stmts, stmts_fused}
 use Rattle.c_accepted.specs.Alike.{IsSmall, meanings_of, IsAt, Front}
 use Rattle.c_accepted.specs.Wholes.{IsWhole}

@@ -12,11 +12,11 @@ use Rattle.c_check_statements.specs.declared.state.State.{State}
 use Rattle.c_check_statements.specs.Declarations.{member_noted, after_counts}
 use Rattle.c_check_statements.specs.Structs.{is_member, member_declared, with_member, Gathered, gathered, open_struct, with_struct as open_in, kinds_in, struct_by, struct_walk}
 use Rattle.c_check.specs.Standing.{structs_from, structs_seen}
-use Rattle.bounds_plan.specs.Roots.{Begins}
-use Rattle.bounds_plan.specs.ElaborateSource.{Reached, Around, past_member}
-use Rattle.bounds_plan.specs.ElaborateExpressions.{expression}
-use Rattle.bounds_plan.specs.ElaborateStatements.{past_counts}
-use Rattle.bounds_plan.specs.ElaborateFunctions.{declared_all}
+use Rattle.bounds_plan.specs.laws.Roots.{Begins}
+use Rattle.bounds_plan.specs.elaboration.Source.{Reached, Around, past_member}
+use Rattle.bounds_plan.specs.elaboration.Expressions.{expression}
+use Rattle.bounds_plan.specs.elaboration.Statements.{past_counts}
+use Rattle.bounds_plan.specs.elaboration.Functions.{declared_all}
 use Rattle.c_accepted.specs.Alike.{meanings_of, IsAt, Front}
 use Rattle.c_accepted.proofs.Empty.{first_empty, second_empty}
 use Rattle.c_accepted.proofs.Going.{nothing_more, front_itself, front_then}

@@ -5,9 +5,9 @@ use Rattle.std.proofs.lemmas.Bool.Decides.{nat_tests}
 use Rattle.mx_base.specs.declared.settings.Flags.{Flags}
 use Rattle.c_tree.specs.declared.tree.Tree.{Tree}
 use Rattle.c_check.specs.Accepted.{IsAccepted, after}
-use Rattle.bounds_plan.specs.ElaborateSource.{Meanings, SourceLayout, Signature}
-use Rattle.bounds_plan.specs.ElaborateFunctions.{elaborated, signatures_of}
-use Rattle.bounds_plan.specs.ElaborateLaws.{TakesParameters, AllAssignable}
+use Rattle.bounds_plan.specs.elaboration.Source.{Meanings, SourceLayout, Signature}
+use Rattle.bounds_plan.specs.elaboration.Functions.{elaborated, signatures_of}
+use Rattle.bounds_plan.specs.elaboration.Laws.{TakesParameters, AllAssignable}
 use Rattle.c_accepted.specs.Frames.{AllPlanned}
 use Rattle.c_accepted.specs.Symbols.{arguments_of, Lacks, AllDiffer, HaveSymbols}
 use Rattle.c_accepted.proofs.Small.{values_assignable}

@@ -23,9 +23,9 @@ use Rattle.c_check_statements.specs.Sources.{is_definition, global_walk, item_ki
 use Rattle.c_check_statements.specs.Walks.{◌then◌, walk_all}
 use Rattle.c_check.specs.Accepted.{IsAccepted, after}
 use Rattle.c_check.specs.Standing.{structs_seen}
-use Rattle.bounds_plan.specs.ElaborateSource.{Around}
-use Rattle.bounds_plan.specs.ElaboratePlaces.{InMemory}
-use Rattle.bounds_plan.specs.Core.{Null}
+use Rattle.bounds_plan.specs.elaboration.Source.{Around}
+use Rattle.bounds_plan.specs.elaboration.Places.{InMemory}
+use Rattle.bounds_plan.specs.meaning.Core.{Null}
 use Rattle.c_types.specs.Types.{Void}
 use Rattle.c_accepted.specs.Wholes.{HasNumber, StayGlobals}
 use Rattle.c_accepted.proofs.Empty.{first_empty, second_empty, neither}

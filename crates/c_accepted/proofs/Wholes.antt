@@ -17,11 +17,11 @@ use Rattle.c_check_statements.specs.Functions.{variables_of, parameter, enter_fu
 use Rattle.c_check_statements.specs.Statements.{maybe_statement}
 use Rattle.c_check_statements.specs.Walks.{walk_all}
 use Rattle.c_check.specs.Standing.{structs_seen}
-use Rattle.bounds_plan.specs.Roots.{Begins}
-use Rattle.bounds_plan.specs.ElaborateSource.{FrameLayout, Meanings, Reached, Signature, Around, declared_at, past_declaration, function_number}
-use Rattle.bounds_plan.specs.ElaborateExpressions.{expression, find_all}
-use Rattle.bounds_plan.specs.ElaborateStatements.{past_counts, maybe}
-use Rattle.bounds_plan.specs.ElaborateFunctions.{no_frame, Gone, declared_all, with_signature, with_body, with_known, with_function}
+use Rattle.bounds_plan.specs.laws.Roots.{Begins}
+use Rattle.bounds_plan.specs.elaboration.Source.{FrameLayout, Meanings, Reached, Signature, Around, declared_at, past_declaration, function_number}
+use Rattle.bounds_plan.specs.elaboration.Expressions.{expression, find_all}
+use Rattle.bounds_plan.specs.elaboration.Statements.{past_counts, maybe}
+use Rattle.bounds_plan.specs.elaboration.Functions.{no_frame, Gone, declared_all, with_signature, with_body, with_known, with_function}
 use Rattle.c_accepted.specs.Alike.{meanings_of, IsAt, Front, signature_seen, signatures_seen, AllTakeWhatTheyHave}
 use Rattle.c_accepted.specs.Frames.{AllPlanned, AreOfBodies}
 use Rattle.c_accepted.proofs.Going.{front_then, Goes}

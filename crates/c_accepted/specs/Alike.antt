@@ -11,12 +11,12 @@ use Rattle.c_check_typing.specs.declared.typed.Notes.{Notes}
 use Rattle.c_check_typing.specs.Notes.{Seen}
 use Rattle.c_check_statements.specs.declared.state.State.{State}
 use Rattle.c_check.specs.Standing.{structs_seen}
-use Rattle.bounds_plan.specs.Core.{Scalar}
-use Rattle.bounds_plan.specs.Laws.{OfCopies, most_bytes}
-use Rattle.bounds_plan.specs.Roots.{Begins}
-use Rattle.bounds_plan.specs.ElaborateFunctions.{Defined, Gone}
-use Rattle.bounds_plan.specs.ElaborateSource.{Meanings, Reached, Around, Signature}
-use Rattle.bounds_plan.specs.ElaborateExpressions.{Reading}
+use Rattle.bounds_plan.specs.meaning.Core.{Scalar}
+use Rattle.bounds_plan.specs.laws.Laws.{OfCopies, most_bytes}
+use Rattle.bounds_plan.specs.laws.Roots.{Begins}
+use Rattle.bounds_plan.specs.elaboration.Functions.{Defined, Gone}
+use Rattle.bounds_plan.specs.elaboration.Source.{Meanings, Reached, Around, Signature}
+use Rattle.bounds_plan.specs.elaboration.Expressions.{Reading}
 
 -- what the elaboration takes from the notes on a tree
 abbrev pub meanings_of : Notes → Meanings

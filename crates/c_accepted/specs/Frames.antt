@@ -7,10 +7,10 @@ use Rattle.c_check_statements.specs.declared.state.Body.{Body}
 use Rattle.c_check_statements.specs.declared.state.BodyVariable.{BodyVariable}
 use Rattle.c_check_statements.specs.Frames.{is_private}
 use Rattle.c_check.specs.Standing.{structs_seen}
-use Rattle.bounds_plan.specs.Roots.{Begins, ParametersFramed}
-use Rattle.bounds_plan.specs.ElaborateSource.{Stand, Private, Frame, FrameLayout, SourceLayout}
-use Rattle.bounds_plan.specs.ElaboratePlaces.{private_values}
-use Rattle.bounds_plan.specs.ElaborateFunctions.{Defined, no_frame, framed_variables}
+use Rattle.bounds_plan.specs.laws.Roots.{Begins, ParametersFramed}
+use Rattle.bounds_plan.specs.elaboration.Source.{Stand, Private, Frame, FrameLayout, SourceLayout}
+use Rattle.bounds_plan.specs.elaboration.Places.{private_values}
+use Rattle.bounds_plan.specs.elaboration.Functions.{Defined, no_frame, framed_variables}
 
 abbrev pub StandAs : BodyVariable → Stand → Type 0
 StandAs v Private = is_private v ≡ true

@@ -5,10 +5,10 @@ use Rattle.c_tree.specs.declared.tree.Tree.{Tree}
 use Rattle.c_tree.specs.Formed.{IsFormed}
 use Rattle.c_check.specs.Accepted.{IsAccepted, after}
 use Rattle.fat_ir.specs.Functions.{Target, OfC, Outside}
-use Rattle.bounds_plan.specs.Functions.{FunctionOfC, Linked}
-use Rattle.bounds_plan.specs.Roots.{StandsIn}
-use Rattle.bounds_plan.specs.ElaborateSource.{SourceLayout, Signature}
-use Rattle.bounds_plan.specs.ElaborateFunctions.{Defined, elaborated, signatures_of}
+use Rattle.bounds_plan.specs.meaning.Functions.{FunctionOfC, Linked}
+use Rattle.bounds_plan.specs.laws.Roots.{StandsIn}
+use Rattle.bounds_plan.specs.elaboration.Source.{SourceLayout, Signature}
+use Rattle.bounds_plan.specs.elaboration.Functions.{Defined, elaborated, signatures_of}
 use Rattle.c_accepted.specs.Alike.{meanings_of}
 
 -- ---- sources

@@ -3,10 +3,10 @@ use Rattle.std.specs.Prelude.{◌≡◌, ◌⊎◌, ℕ, ◌+◌, Some, List, []
 use Rattle.c_tree.specs.declared.tree.Expr.{Expr, fold-Expr}
 use Rattle.c_tree.specs.declared.tree.ExprKind.{ExprKind-F}
 use Rattle.c_tree.specs.declared.tree.ExprKind.TheOpen as e
-use Rattle.bounds_plan.specs.Core.{Effect}
-use Rattle.bounds_plan.specs.Roots.{NamesEffect}
-use Rattle.bounds_plan.specs.ElaborateSource.{SourceLayout}
-use Rattle.bounds_plan.specs.ElaborateLaws.{IsGlobal, IsFunction}
+use Rattle.bounds_plan.specs.meaning.Core.{Effect}
+use Rattle.bounds_plan.specs.laws.Roots.{NamesEffect}
+use Rattle.bounds_plan.specs.elaboration.Source.{SourceLayout}
+use Rattle.bounds_plan.specs.elaboration.Laws.{IsGlobal, IsFunction}
 
 -- ---- the sizes of texts
 

@@ -5,11 +5,11 @@ use Rattle.c_tree.specs.declared.tree.Item.{Item}
 use Rattle.c_types.specs.Types.{CType}
 use Rattle.c_check.specs.Accepted.{after}
 use Rattle.c_check.specs.Standing.{structs_seen}
-use Rattle.bounds_plan.specs.Functions.{Linked}
-use Rattle.bounds_plan.specs.Roots.{NamesStatement, ObjectMade}
-use Rattle.bounds_plan.specs.ElaborateTypes.{size_in}
-use Rattle.bounds_plan.specs.ElaborateSource.{SourceLayout}
-use Rattle.bounds_plan.specs.ElaborateLaws.{IsFunction}
+use Rattle.bounds_plan.specs.meaning.Functions.{Linked}
+use Rattle.bounds_plan.specs.laws.Roots.{NamesStatement, ObjectMade}
+use Rattle.bounds_plan.specs.elaboration.Types.{size_in}
+use Rattle.bounds_plan.specs.elaboration.Source.{SourceLayout}
+use Rattle.bounds_plan.specs.elaboration.Laws.{IsFunction}
 use Rattle.c_accepted.specs.Alike.{meanings_of}
 use Rattle.c_accepted.specs.Frames.{AllPlanned}
 use Rattle.c_accepted.specs.Linked.{Source, IsLinked}

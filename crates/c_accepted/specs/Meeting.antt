@@ -1,13 +1,13 @@
 -- What is asked of a function for its steps to do what it means, for homes to be given to their values, and for the laws of its accesses.
 use Rattle.std.specs.Prelude.{◌≡◌, ℕ, ◌≤◌, List, [], ◌∷◌, length, slice_index_or}
 use Rattle.fat_ir.specs.Spans.{IsAssignable}
-use Rattle.bounds_plan.specs.Code.{fat_function, most_pairs}
-use Rattle.bounds_plan.specs.Compiled.{FitsFunction}
-use Rattle.bounds_plan.specs.Laws.{LieInside, OfCopies}
-use Rattle.bounds_plan.specs.Roots.{ParametersFramed}
-use Rattle.bounds_plan.specs.Sorts.{pairs_of}
-use Rattle.bounds_plan.specs.ElaborateSource.{SourceLayout}
-use Rattle.bounds_plan.specs.ElaborateFunctions.{Defined}
+use Rattle.bounds_plan.specs.steps.Code.{fat_function, most_pairs}
+use Rattle.bounds_plan.specs.steps.Compiled.{FitsFunction}
+use Rattle.bounds_plan.specs.laws.Laws.{LieInside, OfCopies}
+use Rattle.bounds_plan.specs.laws.Roots.{ParametersFramed}
+use Rattle.bounds_plan.specs.steps.Sorts.{pairs_of}
+use Rattle.bounds_plan.specs.elaboration.Source.{SourceLayout}
+use Rattle.bounds_plan.specs.elaboration.Functions.{Defined}
 
 pub record Meets (takes : ℕ → ℕ) (layout : SourceLayout) (d : Defined) : Type 0 where
   pub fits : FitsFunction takes d.function

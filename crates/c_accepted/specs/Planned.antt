@@ -12,7 +12,7 @@ use Rattle.place_plan.specs.declared.plans.Spot.{Spot}
 use Rattle.place_plan.specs.declared.plans.Spot.TheVariants as spot
 use Rattle.place_plan.specs.declared.plans.FramePlan.{FramePlan}
 use Rattle.place_plan.specs.Source.{plan_of}
-use Rattle.bounds_plan.specs.ElaborateSource.{Stand, Private, Frame, FrameLayout, SourceLayout}
+use Rattle.bounds_plan.specs.elaboration.Source.{Stand, Private, Frame, FrameLayout, SourceLayout}
 use Rattle.c_accepted.specs.Linked.{Source}
 
 -- ---- frames

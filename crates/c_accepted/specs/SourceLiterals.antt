@@ -16,12 +16,12 @@ use Rattle.c_tree.specs.declared.tree.StmtKind.TheOpen as s
 use Rattle.c_tree.specs.declared.tree.StmtKind.TheFolds as sf
 use Rattle.c_types.specs.Types.{CType, Void, Int, Pointer, Array, Struct, members_of}
 use Rattle.c_types.specs.Layouts.{layout_of, offsets_from}
-use Rattle.bounds_plan.specs.Roots.{NamesStatement}
-use Rattle.bounds_plan.specs.ElaborateSource.{SourceLayout, Meanings, Reached, Signature, Around, declared_at, bind_at, past_declaration, function_number}
-use Rattle.bounds_plan.specs.ElaborateExpressions.{expression}
-use Rattle.bounds_plan.specs.ElaborateInitialisers.{initialiser}
-use Rattle.bounds_plan.specs.ElaborateStatements.{Stating, done_by, tested_by, maybe, past_counts, declarations, stmt_step, statement_by}
-use Rattle.bounds_plan.specs.ElaborateFunctions.{Defined, Gone, Body, declared_all, with_signature, no_frame, in_body, next_types, body_by, after_item, at_start}
+use Rattle.bounds_plan.specs.laws.Roots.{NamesStatement}
+use Rattle.bounds_plan.specs.elaboration.Source.{SourceLayout, Meanings, Reached, Signature, Around, declared_at, bind_at, past_declaration, function_number}
+use Rattle.bounds_plan.specs.elaboration.Expressions.{expression}
+use Rattle.bounds_plan.specs.elaboration.Initialisers.{initialiser}
+use Rattle.bounds_plan.specs.elaboration.Statements.{Stating, done_by, tested_by, maybe, past_counts, declarations, stmt_step, statement_by}
+use Rattle.bounds_plan.specs.elaboration.Functions.{Defined, Gone, Body, declared_all, with_signature, no_frame, in_body, next_types, body_by, after_item, at_start}
 use Rattle.c_accepted.specs.Literals.{text_sizes, HasSize, IsWholeText}
 
 -- ---- initialisers

@@ -1,7 +1,7 @@
 -- How many arguments the symbols of a layout take, by the functions of its source.
 use Rattle.std.specs.Prelude.{◌≡◌, ◌≢◌, ℕ, ◌≤◌, ◌==◌, if◌then◌else◌, List, [], ◌∷◌, length, slice_index_or}
-use Rattle.bounds_plan.specs.ElaborateSource.{SourceLayout, Signature}
-use Rattle.bounds_plan.specs.ElaborateFunctions.{Defined}
+use Rattle.bounds_plan.specs.elaboration.Source.{SourceLayout, Signature}
+use Rattle.bounds_plan.specs.elaboration.Functions.{Defined}
 
 -- as many as the function of the symbol has parameters
 abbrev pub arguments_of : (symbols : List ℕ) → List Signature → (symbol : ℕ) → ℕ

@@ -9,12 +9,12 @@ use Rattle.c_check_rules.specs.declared.predeclared.Found.{Found}
 use Rattle.c_check_rules.specs.declared.predeclared.Found.TheVariants as f
 use Rattle.c_check_statements.specs.Sources.{items, at_start}
 use Rattle.c_check.specs.Standing.{structs_seen}
-use Rattle.bounds_plan.specs.Core.{Effect}
-use Rattle.bounds_plan.specs.Roots.{NamesEffect, NamesStatement}
-use Rattle.bounds_plan.specs.ElaborateTypes.{size_in}
-use Rattle.bounds_plan.specs.ElaborateSource.{SourceLayout, Around}
-use Rattle.bounds_plan.specs.ElaborateFunctions.{Defined}
-use Rattle.bounds_plan.specs.ElaborateLaws.{IsFunction, IsLiteral}
+use Rattle.bounds_plan.specs.meaning.Core.{Effect}
+use Rattle.bounds_plan.specs.laws.Roots.{NamesEffect, NamesStatement}
+use Rattle.bounds_plan.specs.elaboration.Types.{size_in}
+use Rattle.bounds_plan.specs.elaboration.Source.{SourceLayout, Around}
+use Rattle.bounds_plan.specs.elaboration.Functions.{Defined}
+use Rattle.bounds_plan.specs.elaboration.Laws.{IsFunction, IsLiteral}
 
 -- a name of a variable has the variable's type
 abbrev pub HasItsType : Found → CType → Type 0

@@ -3,6 +3,12 @@ use Rattle.std.proofs.Common.{◌≡◌, ℕ, ◌+◌, ◌≤◌, ◌<◌, refl,
 use Rattle.std.proofs.lemmas.Bool.Decides.{nat_tests}
 use Rattle.mx_base.specs.declared.numbers.IntKind.{IntKind}
 use Rattle.mx_base.specs.declared.numbers.IntKind.TheVariants.{I8, I32, U64}
+use Rattle.mx_base.specs.declared.operators.Arithmetic.{Arithmetic}
+use Rattle.mx_base.specs.declared.operators.Arithmetic.TheVariants.{Mul, Div, Rem, Add, Sub, Shl, Shr, BitAnd, BitXor, BitOr}
+use Rattle.c_tree.specs.declared.operators.UnaryOp.{UnaryOp}
+use Rattle.c_tree.specs.declared.operators.UnaryOp.TheVariants as un
+use Rattle.c_tree.specs.declared.operators.BinaryOp.{BinaryOp}
+use Rattle.c_tree.specs.declared.operators.BinaryOp.TheVariants as bin
 use Rattle.c_tree.specs.declared.tree.Base.{Base}
 use Rattle.c_types.specs.Types.{CType, Int, Pointer, Array}
 use Rattle.c_check_rules.specs.declared.kinds.Outer.{Outer}
@@ -16,7 +22,7 @@ use Rattle.c_check_rules.specs.declared.predeclared.Bind.TheVariants as d
 use Rattle.c_check_rules.specs.declared.predeclared.Found.{Found}
 use Rattle.c_check_rules.specs.declared.predeclared.Found.TheVariants as f
 use Rattle.c_check_rules.specs.Kinds.{outer_of, inner_of, same_kinds}
-use Rattle.c_check_rules.specs.Conversions.{is_scalar, is_void_pointer, compared_form, promoted, product_form, shift_form, stepped, sum_form, difference_form, answers_int, binary_kind, joined, choice_form, choice_kind}
+use Rattle.c_check_rules.specs.Conversions.{is_scalar, is_void_pointer, compared_form, promoted, product_form, shift_form, stepped, sum_form, difference_form, answers_int, arithmetic_kind, binary_kind, joined, choice_form, choice_kind}
 use Rattle.c_check_rules.specs.Sizes.{limit, size_in}
 use Rattle.c_check_typing.specs.declared.typed.Typed.{Typed}
 use Rattle.c_check_typing.specs.declared.typed.Notes.{Notes}
@@ -161,11 +167,22 @@ module _ (most : ℕ) (structs : List StructInfo) where
   answers true = an_integer _
   answers false = unknown
 
-  binary_known : (op : ℕ) (a c : CType) (x y : Bool) → StandsBy most structs a → StandsBy most structs c → Known (binary_kind structs op a c x y)
-  binary_known op a c x y h g = known_if (nat_lt op 3) _ _ (products (outer_of a) (outer_of c)) (known_if (op == 3) _ _ (sums (outer_of a) (outer_of c) a c h g)
-      (known_if (op == 4) _ _ (differences (outer_of a) (outer_of c) a c h) (known_if (nat_lt op 7) _ _ (shifts (outer_of a) (outer_of c))
-      (known_if (nat_lt op 13) _ _ (answers (compared_form (outer_of a) (outer_of c) a c x y))
-      (known_if (nat_lt op 16) _ _ (products (outer_of a) (outer_of c)) (answers (is_scalar a && is_scalar c)))))))
+  arithmetic_known : (op : Arithmetic) (a c : CType) → StandsBy most structs a → StandsBy most structs c → Known (arithmetic_kind structs op a c)
+  arithmetic_known Mul a c h g = products (outer_of a) (outer_of c)
+  arithmetic_known Div a c h g = products (outer_of a) (outer_of c)
+  arithmetic_known Rem a c h g = products (outer_of a) (outer_of c)
+  arithmetic_known Add a c h g = sums (outer_of a) (outer_of c) a c h g
+  arithmetic_known Sub a c h g = differences (outer_of a) (outer_of c) a c h
+  arithmetic_known Shl a c h g = shifts (outer_of a) (outer_of c)
+  arithmetic_known Shr a c h g = shifts (outer_of a) (outer_of c)
+  arithmetic_known BitAnd a c h g = products (outer_of a) (outer_of c)
+  arithmetic_known BitXor a c h g = products (outer_of a) (outer_of c)
+  arithmetic_known BitOr a c h g = products (outer_of a) (outer_of c)
+
+  binary_known : (op : BinaryOp) (a c : CType) (x y : Bool) → StandsBy most structs a → StandsBy most structs c → Known (binary_kind structs op a c x y)
+  binary_known (bin.Arithmetic op) a c x y h g = arithmetic_known op a c h g
+  binary_known (bin.Comparison op) a c x y h g = answers (compared_form (outer_of a) (outer_of c) a c x y)
+  binary_known (bin.Logical op) a c x y h g = answers (is_scalar a && is_scalar c)
 
   joins : (a c : CType) → StandsBy most structs a → StandsBy most structs c → Known (joined a c)
   joins a c h g = known_if (same_kinds a c) _ _ (known a h) (known_if (is_void_pointer a) _ _ (known a h) (known_if (is_void_pointer c) _ _ (known c g) unknown))
@@ -177,7 +194,7 @@ module _ (most : ℕ) (structs : List StructInfo) where
   choices o.Pointer o.Pointer a c v w h g = joins a c h g
   choices _ _ a c v w h g = unknown
 
-  pub binary_good : (op : ℕ) (t u : Typed) → TypedBy most structs t → TypedBy most structs u → GoodOwn most structs (binary_own structs op t u)
+  pub binary_good : (op : BinaryOp) (t u : Typed) → TypedBy most structs t → TypedBy most structs u → GoodOwn most structs (binary_own structs op t u)
   unfolding binary_own
   binary_good op t u h g = kind_own (binary_kind structs op (decayed t.kind) (decayed u.kind) t.is_zero u.is_zero) _ (binary_known op (decayed t.kind) (decayed u.kind) t.is_zero u.is_zero (decayed_stands most structs t.kind h) (decayed_stands most structs u.kind g))
 
@@ -188,7 +205,7 @@ module _ (most : ℕ) (structs : List StructInfo) where
 
   -- ---- operators of one operand
 
-  sign_good : (op : ℕ) (x : Outer) (constant : Constant) → GoodOwn most structs (sign_own op x constant)
+  sign_good : (op : UnaryOp) (x : Outer) (constant : Constant) → GoodOwn most structs (sign_own op x constant)
   sign_good op o.Void constant = wrong_own _ []
   sign_good op (o.Int k) constant = fine_own _ (integer (promoted k))
   sign_good op o.Pointer constant = wrong_own _ []
@@ -218,14 +235,17 @@ module _ (most : ℕ) (structs : List StructInfo) where
     whole = λ e. refl;
   }) (wrong_own _ [])
 
-  pub unary_good : (less : ℕ) → less + 1 ≤ most → (op : ℕ) (t : Typed) → TypedBy less structs t → GoodOwn most structs (unary_own structs op t)
+  pub unary_good : (less : ℕ) → less + 1 ≤ most → (op : UnaryOp) (t : Typed) → TypedBy less structs t → GoodOwn most structs (unary_own structs op t)
   unfolding unary_own
-  unary_good less le op t h = own_if _ _ _ (address_good less le t h) (own_if _ _ _ (target_good t (stands_more less most structs (omega arith) t.kind h))
-      (own_if _ _ _ (not_good t) (sign_good op (outer_of t.kind) t.constant)))
+  unary_good less le un.Neg t h = sign_good un.Neg (outer_of t.kind) t.constant
+  unary_good less le un.BitNot t h = sign_good un.BitNot (outer_of t.kind) t.constant
+  unary_good less le un.Not t h = not_good t
+  unary_good less le un.Deref t h = target_good t (stands_more less most structs (omega arith) t.kind h)
+  unary_good less le un.AddressOf t h = address_good less le t h
 
   -- ---- the others
 
-  pub assign_good : (op : Option ℕ) (t u : Typed) → TypedBy most structs t → GoodOwn most structs (assign_own structs op t u)
+  pub assign_good : (op : Option Arithmetic) (t u : Typed) → TypedBy most structs t → GoodOwn most structs (assign_own structs op t u)
   unfolding assign_own
   assign_good op t u h = judged_own _ _ h
 

@@ -17,7 +17,11 @@ use Rattle.c_check_rules.specs.declared.predeclared.Found.{Found}
 use Rattle.c_check_rules.specs.declared.predeclared.Found.TheVariants as f
 use Rattle.c_check_rules.specs.Kinds.{outer_of}
 use Rattle.c_check_rules.specs.Names.{last_at, tags, tag_at, numbered, found_in, among_locals, among_variables, among_functions, local_found, variable_found, function_found, local_at, variable_at, function_at, member_kind, member_of, last_member}
-use Rattle.c_check_rules.specs.Predeclared.{predeclared_at, predeclared_by, service, builtin}
+use Rattle.mx_base.specs.declared.services.CService.{CService}
+use Rattle.mx_base.specs.declared.services.CService.TheVariants as in_c
+use Rattle.c_check_rules.specs.declared.predeclared.Builtin.{Builtin}
+use Rattle.c_check_rules.specs.declared.predeclared.Builtin.TheVariants as i
+use Rattle.c_check_rules.specs.Predeclared.{service_named, builtin_named, predeclared_by, service, builtin}
 use Rattle.c_check_rules.specs.Sizes.{is_within}
 use Rattle.c_check_typing.specs.Rules.{base_kind, struct_kind, members_in, members_by, member_in, or_void}
 use Rattle.c_check.specs.Standing.{layers_of}
@@ -95,26 +99,29 @@ module _ (most : ℕ) (structs : List StructInfo) where
   record IsFound (found : Found) : Type 0 where
     is : FoundBy found
 
-  found_if : (b : Bool) (x y : Found) → IsFound x → IsFound y → IsFound (if b then x else y)
-  found_if true x y h g = h
-  found_if false x y h g = g
-
   gives : (bind : Bind) (t : CType) (params : List CType) → StandsBy most structs t → IsFound (f.Callable bind t params)
   gives bind t params h = record { is = h }
 
-  service_found : 1 ≤ most → (place : ℕ) → IsFound (service place)
-  service_found h place = found_if (place == 0) _ _ (gives _ Void _ (refl, omega arith)) (found_if (place == 1) _ _ (gives _ Void _ (refl, omega arith)) (found_if (place == 2) _ _ (gives _ (Int I32) _ (refl, omega arith))
-      (found_if (place == 3) _ _ (gives _ (Pointer Void) _ (refl, h)) (found_if (place == 4) _ _ (gives _ (Int I32) _ (refl, omega arith)) (gives _ Void _ (refl, omega arith))))))
+  service_found : 1 ≤ most → (name : CService) → IsFound (service name)
+  service_found h in_c.Print = gives _ Void _ (refl, omega arith)
+  service_found h in_c.Put = gives _ Void _ (refl, omega arith)
+  service_found h in_c.Get = gives _ (Int I32) _ (refl, omega arith)
+  service_found h in_c.Alloc = gives _ (Pointer Void) _ (refl, h)
+  service_found h in_c.Free = gives _ (Int I32) _ (refl, omega arith)
+  service_found h in_c.Exit = gives _ Void _ (refl, omega arith)
 
-  builtin_found : 1 ≤ most → (place : ℕ) → IsFound (builtin place)
-  builtin_found h place = found_if (place == 0) _ _ (gives _ (Pointer Void) _ (refl, h)) (found_if (place == 1) _ _ (gives _ (Pointer Void) _ (refl, h)) (found_if (place == 2) _ _ (gives _ (Pointer Void) _ (refl, h)) (gives _ (Pointer Void) _ (refl, h))))
+  builtin_found : 1 ≤ most → (name : Builtin) → IsFound (builtin name)
+  builtin_found h i.SetBounds = gives _ (Pointer Void) _ (refl, h)
+  builtin_found h i.NarrowBounds = gives _ (Pointer Void) _ (refl, h)
+  builtin_found h i.CopyBounds = gives _ (Pointer Void) _ (refl, h)
+  builtin_found h i.InitBounds = gives _ (Pointer Void) _ (refl, h)
+  builtin_found h i.LowerBound = gives _ (Pointer Void) _ (refl, h)
+  builtin_found h i.UpperBound = gives _ (Pointer Void) _ (refl, h)
 
-  some_found : 1 ≤ most → (place : ℕ) → IsFound (predeclared_by (Some place))
-  some_found h place = found_if (nat_lt place 6) (service place) (builtin (place - 6)) (service_found h place) (builtin_found h (place - 6))
-
-  predeclared_found : 1 ≤ most → (at : Option ℕ) → FoundBy (predeclared_by at)
-  predeclared_found h None = tt
-  predeclared_found h (Some place) = (some_found h place).is
+  predeclared_found : 1 ≤ most → (p : Option CService) (q : Option Builtin) → FoundBy (predeclared_by p q)
+  predeclared_found h (Some p) q = (service_found h p).is
+  predeclared_found h None (Some q) = (builtin_found h q).is
+  predeclared_found h None None = tt
 
   local_known : (x : Option Local) → IfKnown (λ (x : Local). StandsBy most structs x.kind) x → FoundBy (local_found x)
   local_known None h = tt
@@ -135,7 +142,7 @@ found_more most more structs le (f.Callable bind result params) h = stands_more 
 
 module _ (most : ℕ) (scope : Scope) (h : ScopeBy most scope) (some : 1 ≤ most) (name : List ℕ) where
   in_functions : (at : Option ℕ) → FoundBy most scope.structs (among_functions scope name at)
-  in_functions None = predeclared_found most scope.structs some (predeclared_at name)
+  in_functions None = predeclared_found most scope.structs some (service_named name) (builtin_named name)
   in_functions (Some at) = function_known most scope.structs at (slice_get scope.functions at) (got_of_each (λ (x : Function). StandsBy most scope.structs x.result) scope.functions at h.functions)
 
   in_variables : (at : Option ℕ) → FoundBy most scope.structs (among_variables scope name at)

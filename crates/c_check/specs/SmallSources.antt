@@ -2,6 +2,9 @@
 use Rattle.std.specs.Prelude.{ℕ, Bool, true, false, List, [], ◌∷◌, codes, None, Some}
 use Rattle.mx_base.specs.declared.places.Place.{Place}
 use Rattle.mx_base.specs.declared.numbers.IntKind.TheVariants.{I8, I32}
+use Rattle.mx_base.specs.declared.operators.Arithmetic.TheVariants.{Add}
+use Rattle.c_tree.specs.declared.operators.UnaryOp.TheVariants.{Deref}
+use Rattle.c_tree.specs.declared.operators.BinaryOp.TheVariants as o
 use Rattle.c_tree.specs.declared.tree.Tree.{Tree}
 use Rattle.c_tree.specs.declared.tree.Item.{Item}
 use Rattle.c_tree.specs.declared.tree.ItemKind.{ItemKind}
@@ -54,7 +57,7 @@ uses_one = source (
     ∷ global true (codes "b")
     ∷ global false (codes "c")
     ∷ item (k.Fun (int_named (codes "f")) (int_named (codes "n") ∷ []) None)
-    ∷ gives (codes "main") [] (expr (e.Binary 3 (variable (codes "a")) (expr (e.SizeOfValue (variable (codes "b"))))))
+    ∷ gives (codes "main") [] (expr (e.Binary (o.Arithmetic Add) (variable (codes "a")) (expr (e.SizeOfValue (variable (codes "b"))))))
     ∷ [])
 
 -- extern int c; int f(char *p); int c;
@@ -72,9 +75,9 @@ passes_text = source (
 -- int main(void){ return f(0) + sizeof "hi"; }
 abbrev pub calls_own : Tree
 calls_own = source (
-    gives (codes "f") (pointer_named (codes "p") ∷ []) (expr (e.Unary 3 (variable (codes "p"))))
+    gives (codes "f") (pointer_named (codes "p") ∷ []) (expr (e.Unary Deref (variable (codes "p"))))
     ∷ global true (codes "f_2")
-    ∷ gives (codes "main") [] (expr (e.Binary 3 (expr (e.Call (codes "f") (expr (e.Number 0 I32) ∷ []))) (expr (e.SizeOfValue (expr (e.Text (codes "hi")))))))
+    ∷ gives (codes "main") [] (expr (e.Binary (o.Arithmetic Add) (expr (e.Call (codes "f") (expr (e.Number 0 I32) ∷ []))) (expr (e.SizeOfValue (expr (e.Text (codes "hi")))))))
     ∷ [])
 
 -- int a123456789a123456789a123456789a123456789a123456789a123456789a12(void){ return "x"[0]; }

@@ -3,6 +3,9 @@ use Rattle.std.proofs.Common.{ℕ, ◌≡◌, sym, ◌∙◌, ap, subst, rules, 
 use Rattle.std.specs.Prelude.{Option, Result, Err}
 use Rattle.mx_base.specs.declared.places.Place.{Place}
 use Rattle.mx_base.specs.declared.numbers.IntKind.{IntKind}
+use Rattle.mx_base.specs.declared.operators.Arithmetic.{Arithmetic}
+use Rattle.c_tree.specs.declared.operators.UnaryOp.{UnaryOp}
+use Rattle.c_tree.specs.declared.operators.BinaryOp.{BinaryOp}
 use Rattle.c_tree.specs.declared.tree.Base.{Base}
 use Rattle.c_tree.specs.declared.tree.Expr.{Expr, the_lemmas}
 use Rattle.c_tree.specs.declared.tree.ExprKind.{ExprKind}
@@ -55,10 +58,10 @@ size_of_kind_at p base stars f s = search (rules, the_lemmas)
 pub size_of_kind_is : (x : Expr) (base : Base) (stars : ℕ) (f : Bool) (s : Scope) → x.kind ≡ v.SizeOfKind base stars → seen x f s ≡ leaf x.place (size_of_kind_own s base stars)
 size_of_kind_is x base stars f s e = of_form x (v.SizeOfKind base stars) f s e ∙ size_of_kind_at x.place base stars f s
 
-pub unary_at : (p : Place) (op : ℕ) (a : Expr) (f : Bool) (s : Scope) → seen (at p (v.Unary op a)) f s ≡ one p (seen a false s) (λ t. with_typed t (unary_own s.structs op))
+pub unary_at : (p : Place) (op : UnaryOp) (a : Expr) (f : Bool) (s : Scope) → seen (at p (v.Unary op a)) f s ≡ one p (seen a false s) (λ t. with_typed t (unary_own s.structs op))
 unary_at p op a f s = search (rules, the_lemmas)
 
-pub unary_is : (x : Expr) (op : ℕ) (a b : Expr) (f : Bool) (s : Scope) → x.kind ≡ v.Unary op a → b ≡ a → seen x f s ≡ one x.place (seen b false s) (λ t. with_typed t (unary_own s.structs op))
+pub unary_is : (x : Expr) (op : UnaryOp) (a b : Expr) (f : Bool) (s : Scope) → x.kind ≡ v.Unary op a → b ≡ a → seen x f s ≡ one x.place (seen b false s) (λ t. with_typed t (unary_own s.structs op))
 unary_is x op a b f s e g = of_form x (v.Unary op a) f s e ∙ (unary_at x.place op a f s ∙ ap (λ (a : Expr). one x.place (seen a false s) (λ t. with_typed t (unary_own s.structs op))) (sym g))
 
 pub step_by_at : (p : Place) (up : Bool) (before : Bool) (a : Expr) (f : Bool) (s : Scope) → seen (at p (v.StepBy up before a)) f s ≡ one p (seen a false s) (λ t. with_typed t (step_own s.structs))
@@ -97,17 +100,17 @@ size_of_value_at p a f s = search (rules, the_lemmas)
 pub size_of_value_is : (x : Expr) (a b : Expr) (f : Bool) (s : Scope) → x.kind ≡ v.SizeOfValue a → b ≡ a → seen x f s ≡ one x.place (unevaluated (seen b false s)) (λ t. with_typed t (λ t. size_own s.structs t.kind))
 size_of_value_is x a b f s e g = of_form x (v.SizeOfValue a) f s e ∙ (size_of_value_at x.place a f s ∙ ap (λ (a : Expr). one x.place (unevaluated (seen a false s)) (λ t. with_typed t (λ t. size_own s.structs t.kind))) (sym g))
 
-pub binary_at : (p : Place) (op : ℕ) (a b : Expr) (f : Bool) (s : Scope) → seen (at p (v.Binary op a b)) f s ≡ two p (seen a false s) (seen b false s) (binary_own s.structs op)
+pub binary_at : (p : Place) (op : BinaryOp) (a b : Expr) (f : Bool) (s : Scope) → seen (at p (v.Binary op a b)) f s ≡ two p (seen a false s) (seen b false s) (binary_own s.structs op)
 binary_at p op a b f s = search (rules, the_lemmas)
 
-pub binary_is : (x : Expr) (op : ℕ) (a b d e : Expr) (f : Bool) (s : Scope) → x.kind ≡ v.Binary op a b → d ≡ a → e ≡ b → seen x f s ≡ two x.place (seen d false s) (seen e false s) (binary_own s.structs op)
+pub binary_is : (x : Expr) (op : BinaryOp) (a b d e : Expr) (f : Bool) (s : Scope) → x.kind ≡ v.Binary op a b → d ≡ a → e ≡ b → seen x f s ≡ two x.place (seen d false s) (seen e false s) (binary_own s.structs op)
 binary_is x op a b d e f s h g i = of_form x (v.Binary op a b) f s h ∙ (binary_at x.place op a b f s
     ∙ (ap (λ (y : Expr). two x.place (seen y false s) (seen b false s) (binary_own s.structs op)) (sym g) ∙ ap (λ (y : Expr). two x.place (seen d false s) (seen y false s) (binary_own s.structs op)) (sym i)))
 
-pub assign_at : (p : Place) (op : Option ℕ) (a b : Expr) (f : Bool) (s : Scope) → seen (at p (v.Assign op a b)) f s ≡ two p (seen a false s) (seen b false s) (assign_own s.structs op)
+pub assign_at : (p : Place) (op : Option Arithmetic) (a b : Expr) (f : Bool) (s : Scope) → seen (at p (v.Assign op a b)) f s ≡ two p (seen a false s) (seen b false s) (assign_own s.structs op)
 assign_at p op a b f s = search (rules, the_lemmas)
 
-pub assign_is : (x : Expr) (op : Option ℕ) (a b d e : Expr) (f : Bool) (s : Scope) → x.kind ≡ v.Assign op a b → d ≡ a → e ≡ b → seen x f s ≡ two x.place (seen d false s) (seen e false s) (assign_own s.structs op)
+pub assign_is : (x : Expr) (op : Option Arithmetic) (a b d e : Expr) (f : Bool) (s : Scope) → x.kind ≡ v.Assign op a b → d ≡ a → e ≡ b → seen x f s ≡ two x.place (seen d false s) (seen e false s) (assign_own s.structs op)
 assign_is x op a b d e f s h g i = of_form x (v.Assign op a b) f s h ∙ (assign_at x.place op a b f s
     ∙ (ap (λ (y : Expr). two x.place (seen y false s) (seen b false s) (assign_own s.structs op)) (sym g) ∙ ap (λ (y : Expr). two x.place (seen d false s) (seen y false s) (assign_own s.structs op)) (sym i)))
 

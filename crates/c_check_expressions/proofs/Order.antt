@@ -1,6 +1,10 @@
 -- The rules of each form are listed in the order of their kinds.
 use Rattle.std.proofs.Common.{◌≡◌, ℕ, refl, sym, subst, nat_lt, nat_eq, Bool, true, false, ◌&&◌, ◌||◌, not, List, [], ◌∷◌, ◌++◌, length}
 use Rattle.std.specs.Prelude.{Option, None, Some, if◌then◌else◌, ◌==◌}
+use Rattle.mx_base.specs.declared.operators.Arithmetic.{Arithmetic}
+use Rattle.c_tree.specs.declared.operators.UnaryOp.{UnaryOp}
+use Rattle.c_tree.specs.declared.operators.BinaryOp.{BinaryOp}
+use Rattle.c_tree.specs.declared.operators.UnaryOp.TheVariants as u
 use Rattle.c_tree.specs.declared.tree.Base.{Base}
 use Rattle.c_types.specs.Types.{CType, Pointer, Int}
 use Rattle.c_check_rules.specs.declared.kinds.Outer.{Outer}
@@ -89,24 +93,26 @@ name_order functions f.Missing = refl
 name_order functions (f.Variable bind kind) = refl
 name_order functions (f.Callable bind result params) = function_order functions bind
 
-sign_order : (op : ℕ) (form : Outer) (constant : Constant) → Ordered (r.sign_own op form constant)
+sign_order : (op : UnaryOp) (form : Outer) (constant : Constant) → Ordered (r.sign_own op form constant)
 sign_order op o.Void constant = refl
 sign_order op (o.Int k) constant = refl
 sign_order op o.Pointer constant = refl
 sign_order op (o.Array n) constant = refl
 sign_order op (o.Struct n) constant = refl
 
-pub unary_order : (structs : List StructInfo) (op : ℕ) (a : Typed) → InOrder (unary_own structs op a).broken
+pub unary_order : (structs : List StructInfo) (op : UnaryOp) (a : Typed) → InOrder (unary_own structs op a).broken
 unfolding unary_own
-unary_order structs op a = either (op == 4) _ _ (either a.is_place _ _ refl refl)
-    (either (op == 3) _ _ (either (r.is_address (outer_of a.kind) && is_sized structs (inner_of a.kind)) _ _ refl refl)
-    (either (op == 2) _ _ (either (is_scalar (r.decayed a.kind)) _ _ refl refl) (sign_order op (outer_of a.kind) a.constant)))
+unary_order structs u.Neg a = sign_order u.Neg (outer_of a.kind) a.constant
+unary_order structs u.BitNot a = sign_order u.BitNot (outer_of a.kind) a.constant
+unary_order structs u.Not a = either (is_scalar (r.decayed a.kind)) _ _ refl refl
+unary_order structs u.Deref a = either (r.is_address (outer_of a.kind) && is_sized structs (inner_of a.kind)) _ _ refl refl
+unary_order structs u.AddressOf a = either a.is_place _ _ refl refl
 
 of_kind_order : (kind : Option CType) (constant : Constant) → Ordered (r.of_kind kind constant)
 of_kind_order None constant = refl
 of_kind_order (Some kind) constant = refl
 
-pub binary_order : (structs : List StructInfo) (op : ℕ) (a e : Typed) → InOrder (binary_own structs op a e).broken
+pub binary_order : (structs : List StructInfo) (op : BinaryOp) (a e : Typed) → InOrder (binary_own structs op a e).broken
 unfolding binary_own
 binary_order structs op a e = of_kind_order (binary_kind structs op (r.decayed a.kind) (r.decayed e.kind) a.is_zero e.is_zero)
     (r.binary_constant structs op a e)
@@ -116,7 +122,7 @@ unfolding choice_own
 choice_order test a e = either (is_scalar (r.decayed test.kind)) _ _ (of_kind_order (choice_kind (r.decayed a.kind) (r.decayed e.kind) a.is_zero e.is_zero)
     (r.choice_constant test a e)) refl
 
-pub assign_order : (structs : List StructInfo) (op : Option ℕ) (a e : Typed) → InOrder (assign_own structs op a e).broken
+pub assign_order : (structs : List StructInfo) (op : Option Arithmetic) (a e : Typed) → InOrder (assign_own structs op a e).broken
 unfolding assign_own
 assign_order structs op a e = judged_as (breaks NotPlace (r.is_no_target a || r.is_no_source e) ++ (breaks BadType (not (r.fits_assignment structs op a e)) ++ breaks LargeCopy (r.is_large_copy structs op a e))) (value a.kind c.No)
     (place_type_copy (r.is_no_target a || r.is_no_source e) (not (r.fits_assignment structs op a e)) (r.is_large_copy structs op a e))

@@ -3,6 +3,9 @@
 ghost use Rattle.std.specs.Prelude.{◌≡◌, ℕ, Bool, false, ◌++◌, List, Option, map};
 ghost use Rattle.mx_base.specs.declared.places.Place.{Place};
 ghost use Rattle.mx_base.specs.declared.numbers.IntKind.{IntKind};
+ghost use Rattle.mx_base.specs.declared.operators.Arithmetic.{Arithmetic};
+ghost use Rattle.c_tree.specs.declared.operators.UnaryOp.{UnaryOp};
+ghost use Rattle.c_tree.specs.declared.operators.BinaryOp.{BinaryOp};
 ghost use Rattle.c_tree.specs.declared.tree.Base.{Base};
 ghost use Rattle.c_tree.specs.declared.tree.Expr.{Expr};
 ghost use Rattle.c_tree.specs.declared.tree.ExprKind.TheVariants as v;
@@ -23,9 +26,9 @@ pub fn expressions_are_seen_by_their_parts()
     ensures number { (place : Place) (n : ℕ) (kind : IntKind) (functions : Bool) (scope : Scope) → seen (record { place = place; kind = v.Number n kind }) functions scope ≡ leaf place (rule.number_own n kind) }
     ensures text { (place : Place) (bytes : List ℕ) (functions : Bool) (scope : Scope) → seen (record { place = place; kind = v.Text bytes }) functions scope ≡ leaf place (rule.text_own bytes) }
     ensures name { (place : Place) (name : List ℕ) (functions : Bool) (scope : Scope) → seen (record { place = place; kind = v.Var name }) functions scope ≡ leaf place (rule.name_own functions (found_in scope name)) }
-    ensures unary { (place : Place) (op : ℕ) (a : Expr) (functions : Bool) (scope : Scope) → seen (record { place = place; kind = v.Unary op a }) functions scope ≡ one place (seen a false scope) (λ t. with_typed t (rule.unary_own scope.structs op)) }
-    ensures binary { (place : Place) (op : ℕ) (a b : Expr) (functions : Bool) (scope : Scope) → seen (record { place = place; kind = v.Binary op a b }) functions scope ≡ two place (seen a false scope) (seen b false scope) (rule.binary_own scope.structs op) }
-    ensures assign { (place : Place) (op : Option ℕ) (a b : Expr) (functions : Bool) (scope : Scope) → seen (record { place = place; kind = v.Assign op a b }) functions scope ≡ two place (seen a false scope) (seen b false scope) (rule.assign_own scope.structs op) }
+    ensures unary { (place : Place) (op : UnaryOp) (a : Expr) (functions : Bool) (scope : Scope) → seen (record { place = place; kind = v.Unary op a }) functions scope ≡ one place (seen a false scope) (λ t. with_typed t (rule.unary_own scope.structs op)) }
+    ensures binary { (place : Place) (op : BinaryOp) (a b : Expr) (functions : Bool) (scope : Scope) → seen (record { place = place; kind = v.Binary op a b }) functions scope ≡ two place (seen a false scope) (seen b false scope) (rule.binary_own scope.structs op) }
+    ensures assign { (place : Place) (op : Option Arithmetic) (a b : Expr) (functions : Bool) (scope : Scope) → seen (record { place = place; kind = v.Assign op a b }) functions scope ≡ two place (seen a false scope) (seen b false scope) (rule.assign_own scope.structs op) }
     ensures step_by { (place : Place) (up before : Bool) (a : Expr) (functions : Bool) (scope : Scope) → seen (record { place = place; kind = v.StepBy up before a }) functions scope ≡ one place (seen a false scope) (λ t. with_typed t (rule.step_own scope.structs)) }
     ensures cond { (place : Place) (a b c : Expr) (functions : Bool) (scope : Scope) → seen (record { place = place; kind = v.Cond a b c }) functions scope ≡ three place (seen a false scope) (seen b false scope) (seen c false scope) rule.choice_own }
     ensures call { (place : Place) (name : List ℕ) (all : List Expr) (functions : Bool) (scope : Scope) → seen (record { place = place; kind = v.Call name all }) functions scope ≡ call place scope (found_in scope name) (map seen all) }
@@ -50,10 +53,10 @@ pub fn broken_rules_of_parts_come_first()
 pub fn rules_of_a_node_are_in_order()
     ensures text { (bytes : List ℕ) → InOrder (rule.text_own bytes).broken }
     ensures name { (functions : Bool) (found : Found) → InOrder (rule.name_own functions found).broken }
-    ensures unary { (structs : List StructInfo) (op : ℕ) (a : Typed) → InOrder (rule.unary_own structs op a).broken }
-    ensures binary { (structs : List StructInfo) (op : ℕ) (a b : Typed) → InOrder (rule.binary_own structs op a b).broken }
+    ensures unary { (structs : List StructInfo) (op : UnaryOp) (a : Typed) → InOrder (rule.unary_own structs op a).broken }
+    ensures binary { (structs : List StructInfo) (op : BinaryOp) (a b : Typed) → InOrder (rule.binary_own structs op a b).broken }
     ensures choice { (a b c : Typed) → InOrder (rule.choice_own a b c).broken }
-    ensures assign { (structs : List StructInfo) (op : Option ℕ) (a b : Typed) → InOrder (rule.assign_own structs op a b).broken }
+    ensures assign { (structs : List StructInfo) (op : Option Arithmetic) (a b : Typed) → InOrder (rule.assign_own structs op a b).broken }
     ensures step { (structs : List StructInfo) (a : Typed) → InOrder (rule.step_own structs a).broken }
     ensures index { (structs : List StructInfo) (a i : Typed) → InOrder (rule.index_own structs a i).broken }
     ensures member { (structs : List StructInfo) (name : List ℕ) (a : Typed) → InOrder (rule.member_own structs name a).broken }

@@ -1,12 +1,16 @@
 -- Constants, by their 64-bit words; that of a pointer is its address. Numbers, characters, `sizeof` and the operators over integers and pointers
 -- give them, and casts; a division without a quotient stops; everything else is none.
-use Rattle.std.specs.Prelude.{ℕ, ◌==◌, nat_lt, Bool, true, false, ◌||◌, if◌then◌else◌, Option, None, Some}
+use Rattle.std.specs.Prelude.{ℕ, ◌==◌, Bool, true, false, ◌||◌, if◌then◌else◌, Option, None, Some}
 use Rattle.mx_base.specs.declared.numbers.IntKind.{IntKind}
 use Rattle.mx_base.specs.declared.numbers.IntKind.TheVariants.{U64}
 use Rattle.mx_base.specs.Numbers.{value_of, word_of, extended}
-use Rattle.mx_base.specs.declared.operators.Arithmetic.{Arithmetic}
-use Rattle.mx_base.specs.declared.operators.Comparison.{Comparison}
-use Rattle.mx_base.specs.Operators.{negated, inverted, is_zero, arithmetic_at, comparison_at, word_arithmetic, compares}
+use Rattle.mx_base.specs.Operators.{negated, inverted, is_zero, word_arithmetic, compares}
+use Rattle.c_tree.specs.declared.operators.UnaryOp.{UnaryOp}
+use Rattle.c_tree.specs.declared.operators.UnaryOp.TheVariants as u
+use Rattle.c_tree.specs.declared.operators.Logical.{Logical}
+use Rattle.c_tree.specs.declared.operators.Logical.TheVariants as l
+use Rattle.c_tree.specs.declared.operators.BinaryOp.{BinaryOp}
+use Rattle.c_tree.specs.declared.operators.BinaryOp.TheVariants as op
 use Rattle.c_check_rules.specs.declared.kinds.Outer.{Outer}
 use Rattle.c_check_rules.specs.declared.kinds.Outer.TheVariants as o
 use Rattle.c_check_rules.specs.declared.constants.Constant.{Constant}
@@ -16,33 +20,25 @@ abbrev pub is_unsigned_long : IntKind → Bool
 is_unsigned_long U64 = true
 is_unsigned_long _ = false
 
--- `-`, `~`, `!` of a word of a type
-abbrev pub unary_word : ℕ → IntKind → ℕ → ℕ
-unary_word op k w = if op == 0 then word_of (negated k (value_of k w)) else if op == 1 then word_of (inverted k (value_of k w)) else if is_zero (value_of k w) then 1 else 0
+abbrev pub truth_word : Bool → Constant
+truth_word holds = if holds then c.Value 1 else c.Value 0
 
-abbrev pub fold_unary : ℕ → IntKind → Constant → Constant
-fold_unary op k (c.Value w) = c.Value (unary_word op k w)
-fold_unary op k c.Stops = c.Stops
-fold_unary op k c.No = c.No
+-- `-`, `~` and `!` of a word of a type; `*` and `&` give no constant
+abbrev pub unary_word : UnaryOp → IntKind → ℕ → Constant
+unary_word u.Neg k w = c.Value (word_of (negated k (value_of k w)))
+unary_word u.BitNot k w = c.Value (word_of (inverted k (value_of k w)))
+unary_word u.Not k w = truth_word (is_zero (value_of k w))
+unary_word u.Deref k w = c.No
+unary_word u.AddressOf k w = c.No
+
+abbrev pub fold_unary : UnaryOp → IntKind → Constant → Constant
+fold_unary f k (c.Value w) = unary_word f k w
+fold_unary f k c.Stops = c.Stops
+fold_unary f k c.No = c.No
 
 abbrev pub answered : Option ℕ → Constant
 answered None = c.Stops
 answered (Some w) = c.Value w
-
-abbrev pub truth_word : Bool → Constant
-truth_word holds = if holds then c.Value 1 else c.Value 0
-
-abbrev pub compared_word : Option Comparison → IntKind → ℕ → ℕ → Constant
-compared_word None k a b = c.No
-compared_word (Some op) k a b = truth_word (compares op (value_of k a) (value_of k b))
-
-abbrev pub computed_word : Option Arithmetic → ℕ → IntKind → ℕ → ℕ → Constant
-computed_word None op k a b = compared_word (comparison_at op) k a b
-computed_word (Some f) op k a b = answered (word_arithmetic f k a b)
-
--- an operator on two words that are taken in the type k
-abbrev pub binary_word : ℕ → IntKind → ℕ → ℕ → Constant
-binary_word op k a b = computed_word (arithmetic_at op) op k a b
 
 abbrev pub truth : ℕ → Constant
 truth w = if w == 0 then c.Value 0 else c.Value 1
@@ -59,27 +55,39 @@ both w b = if w == 0 then c.Value 0 else truth_of b
 abbrev pub either : ℕ → Constant → Constant
 either w b = if w == 0 then truth_of b else c.Value 1
 
-abbrev pub fold_logic : ℕ → Constant → Constant → Constant
-fold_logic op c.No b = c.No
-fold_logic op c.Stops c.No = c.No
-fold_logic op c.Stops (c.Value v) = c.Stops
-fold_logic op c.Stops c.Stops = c.Stops
-fold_logic op (c.Value w) c.No = c.No
-fold_logic op (c.Value w) (c.Value v) = if op == 16 then both w (c.Value v) else either w (c.Value v)
-fold_logic op (c.Value w) c.Stops = if op == 16 then both w c.Stops else either w c.Stops
+abbrev pub logical : Logical → ℕ → Constant → Constant
+logical l.And w b = both w b
+logical l.Or w b = either w b
 
-abbrev pub fold_strict : ℕ → IntKind → Constant → Constant → Constant
-fold_strict op k c.No b = c.No
-fold_strict op k c.Stops c.No = c.No
-fold_strict op k c.Stops (c.Value v) = c.Stops
-fold_strict op k c.Stops c.Stops = c.Stops
-fold_strict op k (c.Value w) c.No = c.No
-fold_strict op k (c.Value w) c.Stops = c.Stops
-fold_strict op k (c.Value w) (c.Value v) = binary_word op k w v
+abbrev pub fold_logic : Logical → Constant → Constant → Constant
+fold_logic f c.No b = c.No
+fold_logic f c.Stops c.No = c.No
+fold_logic f c.Stops (c.Value v) = c.Stops
+fold_logic f c.Stops c.Stops = c.Stops
+fold_logic f (c.Value w) c.No = c.No
+fold_logic f (c.Value w) (c.Value v) = logical f w (c.Value v)
+fold_logic f (c.Value w) c.Stops = logical f w c.Stops
+
+-- an operator on two words that are taken in the type k
+abbrev pub binary_word : BinaryOp → IntKind → ℕ → ℕ → Constant
+binary_word (op.Arithmetic f) k a b = answered (word_arithmetic f k a b)
+binary_word (op.Comparison f) k a b = truth_word (compares f (value_of k a) (value_of k b))
+binary_word (op.Logical f) k a b = logical f a (c.Value b)
+
+abbrev pub fold_strict : BinaryOp → IntKind → Constant → Constant → Constant
+fold_strict f k c.No b = c.No
+fold_strict f k c.Stops c.No = c.No
+fold_strict f k c.Stops (c.Value v) = c.Stops
+fold_strict f k c.Stops c.Stops = c.Stops
+fold_strict f k (c.Value w) c.No = c.No
+fold_strict f k (c.Value w) c.Stops = c.Stops
+fold_strict f k (c.Value w) (c.Value v) = binary_word f k w v
 
 -- an operator of two operands, where k is the type in which they are taken
-abbrev pub fold_binary : ℕ → IntKind → Constant → Constant → Constant
-fold_binary op k a b = if nat_lt op 16 then fold_strict op k a b else fold_logic op a b
+abbrev pub fold_binary : BinaryOp → IntKind → Constant → Constant → Constant
+fold_binary (op.Arithmetic f) k a b = fold_strict (op.Arithmetic f) k a b
+fold_binary (op.Comparison f) k a b = fold_strict (op.Comparison f) k a b
+fold_binary (op.Logical f) k a b = fold_logic f a b
 
 abbrev pub cast_form : Outer → ℕ → Constant
 cast_form o.Void w = c.No

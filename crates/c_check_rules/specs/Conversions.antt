@@ -1,8 +1,12 @@
 -- Which types conversions, operators and casts take and give. A type is judged by its outermost form; an array that is used as a value has become
 -- a pointer to its elements first.
-use Rattle.std.specs.Prelude.{ℕ, Bool, true, false, ◌&&◌, ◌||◌, ◌==◌, nat_lt, if◌then◌else◌, List, Option, None, Some}
+use Rattle.std.specs.Prelude.{Bool, true, false, ◌&&◌, ◌||◌, ◌==◌, if◌then◌else◌, List, Option, None, Some}
 use Rattle.mx_base.specs.declared.numbers.IntKind.{IntKind}
 use Rattle.mx_base.specs.declared.numbers.IntKind.TheVariants.{I8, U8, I16, U16, I32, U32, I64, U64}
+use Rattle.mx_base.specs.declared.operators.Arithmetic.{Arithmetic}
+use Rattle.mx_base.specs.declared.operators.Arithmetic.TheVariants.{Mul, Div, Rem, Add, Sub, Shl, Shr, BitAnd, BitXor, BitOr}
+use Rattle.c_tree.specs.declared.operators.BinaryOp.{BinaryOp}
+use Rattle.c_tree.specs.declared.operators.BinaryOp.TheVariants as op
 use Rattle.c_types.specs.Types.{CType, Int}
 use Rattle.c_check_rules.specs.declared.kinds.Outer.{Outer}
 use Rattle.c_check_rules.specs.declared.kinds.Outer.TheVariants as o
@@ -101,7 +105,7 @@ fits_struct target source = fits_struct_form (outer_of target) (outer_of source)
 abbrev pub cast_fits : CType → CType → Bool
 cast_fits target source = is_scalar target && is_scalar source
 
--- ---- operators of two operands, by their places: * / % + - << >> < <= > >= == != & ^ | && ||
+-- ---- operators of two operands
 
 abbrev pub product_form : Outer → Outer → Option CType
 product_form (o.Int k) (o.Int l) = Some (Int (common k l))
@@ -138,16 +142,24 @@ abbrev pub answers_int : Bool → Option CType
 answers_int true = Some (Int I32)
 answers_int false = None
 
--- the type of an operator of two operands, of which neither is an array; None where it takes no such operands
-abbrev pub binary_kind : List StructInfo → ℕ → (a b : CType) → (zero_a zero_b : Bool) → Option CType
-binary_kind structs op a b zero_a zero_b =
-    if nat_lt op 3 then product_form (outer_of a) (outer_of b)
-    else if op == 3 then sum_form structs (outer_of a) (outer_of b) a b
-    else if op == 4 then difference_form structs (outer_of a) (outer_of b) a b
-    else if nat_lt op 7 then shift_form (outer_of a) (outer_of b)
-    else if nat_lt op 13 then answers_int (compared_form (outer_of a) (outer_of b) a b zero_a zero_b)
-    else if nat_lt op 16 then product_form (outer_of a) (outer_of b)
-    else answers_int (is_scalar a && is_scalar b)
+-- the type of an operator that calculates, over operands of which neither is an array; None where it takes no such operands
+abbrev pub arithmetic_kind : List StructInfo → Arithmetic → (a b : CType) → Option CType
+arithmetic_kind structs Mul a b = product_form (outer_of a) (outer_of b)
+arithmetic_kind structs Div a b = product_form (outer_of a) (outer_of b)
+arithmetic_kind structs Rem a b = product_form (outer_of a) (outer_of b)
+arithmetic_kind structs Add a b = sum_form structs (outer_of a) (outer_of b) a b
+arithmetic_kind structs Sub a b = difference_form structs (outer_of a) (outer_of b) a b
+arithmetic_kind structs Shl a b = shift_form (outer_of a) (outer_of b)
+arithmetic_kind structs Shr a b = shift_form (outer_of a) (outer_of b)
+arithmetic_kind structs BitAnd a b = product_form (outer_of a) (outer_of b)
+arithmetic_kind structs BitXor a b = product_form (outer_of a) (outer_of b)
+arithmetic_kind structs BitOr a b = product_form (outer_of a) (outer_of b)
+
+-- the same of each operator between two operands: one that compares and one of `&&` and `||` gives an `int`
+abbrev pub binary_kind : List StructInfo → BinaryOp → (a b : CType) → (zero_a zero_b : Bool) → Option CType
+binary_kind structs (op.Arithmetic f) a b zero_a zero_b = arithmetic_kind structs f a b
+binary_kind structs (op.Comparison f) a b zero_a zero_b = answers_int (compared_form (outer_of a) (outer_of b) a b zero_a zero_b)
+binary_kind structs (op.Logical f) a b zero_a zero_b = answers_int (is_scalar a && is_scalar b)
 
 -- of two pointers of one type that type, and `void *` where one of them is that
 abbrev pub joined : CType → CType → Option CType

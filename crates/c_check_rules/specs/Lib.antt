@@ -3,6 +3,7 @@ pub mod Kinds
 pub mod Sizes
 pub mod Named
 pub mod Names
+pub mod Operators
 pub mod Conversions
 pub mod Constants
 pub mod Predeclared

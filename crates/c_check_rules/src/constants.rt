@@ -5,11 +5,12 @@ ghost use Rattle.std.specs.Ordering.{int_eq};
 ghost use Rattle.mx_base.specs.Numbers.{value_of, word_of as word_of_number, residue};
 ghost use Rattle.mx_base.specs.declared.operators.Arithmetic.TheVariants.{Mul, Div, Rem, Add, Sub, Shl, Shr, BitAnd, BitXor, BitOr};
 ghost use Rattle.mx_base.specs.declared.operators.Comparison.TheVariants.{Less, LessOrEqual, Equal, NotEqual};
-ghost use Rattle.mx_base.specs.Operators.{compares, negated, inverted, is_zero, is_long as spec_is_long, has_no_quotient as spec_has_no_quotient, count_modulus as spec_count_modulus, comparison_at, word_arithmetic};
+ghost use Rattle.mx_base.specs.Operators.{compares, negated, inverted, is_zero, is_long as spec_is_long, has_no_quotient as spec_has_no_quotient, count_modulus as spec_count_modulus, word_arithmetic};
 ghost use Rattle.c_check_rules.specs.Constants as spec;
 
 use crate::kinds::Outer;
-use mx_base::{IntKind, extend, wrap};
+use c_tree::{BinaryOp, Logical, UnaryOp};
+use mx_base::{Arithmetic, Comparison, IntKind, extend, wrap};
 
 /// What an expression is as a constant: one by its 64-bit word, one whose division stops, or none.
 #[derive(Clone, Copy, Debug)]
@@ -63,26 +64,33 @@ fn is_zero_word(kind: IntKind, word: u64) -> bool
     n == 0
 }
 
-fn unary_word(op: u8, kind: IntKind, word: u64) -> u64
+fn truth_word(holds: bool) -> Constant
+    ensures { result ≡ spec.truth_word holds }
+{
+    if holds {
+        Constant::Value(1)
+    } else {
+        Constant::Value(0)
+    }
+}
+
+fn unary_word(op: UnaryOp, kind: IntKind, word: u64) -> Constant
     ensures { result ≡ spec.unary_word op kind word }
 {
-    if op == 0 {
-        negative(kind, word)
-    } else if op == 1 {
-        inverse(kind, word)
-    } else if is_zero_word(kind, word) {
-        1
-    } else {
-        0
+    match op {
+        UnaryOp::Neg => Constant::Value(negative(kind, word)),
+        UnaryOp::BitNot => Constant::Value(inverse(kind, word)),
+        UnaryOp::Not => truth_word(is_zero_word(kind, word)),
+        UnaryOp::Deref | UnaryOp::AddressOf => Constant::No,
     }
 }
 
 /// `-`, `~` or `!` over a constant of a type.
-pub fn fold_unary(op: u8, kind: IntKind, constant: Constant) -> Constant
+pub fn fold_unary(op: UnaryOp, kind: IntKind, constant: Constant) -> Constant
     ensures { result ≡ spec.fold_unary op kind constant }
 {
     match constant {
-        Constant::Value(word) => Constant::Value(unary_word(op, kind, word)),
+        Constant::Value(word) => unary_word(op, kind, word),
         Constant::Stops => Constant::Stops,
         Constant::No => Constant::No,
     }
@@ -128,7 +136,16 @@ fn either(word: u64, b: Constant) -> Constant
     }
 }
 
-fn fold_logic(op: u8, a: Constant, b: Constant) -> Constant
+fn logical(op: Logical, word: u64, b: Constant) -> Constant
+    ensures { result ≡ spec.logical op word b }
+{
+    match op {
+        Logical::And => both(word, b),
+        Logical::Or => either(word, b),
+    }
+}
+
+fn fold_logic(op: Logical, a: Constant, b: Constant) -> Constant
     ensures { result ≡ spec.fold_logic op a b }
 {
     match a {
@@ -140,25 +157,13 @@ fn fold_logic(op: u8, a: Constant, b: Constant) -> Constant
         },
         Constant::Value(word) => match b {
             Constant::No => Constant::No,
-            Constant::Value(_) => {
-                if op == 16 {
-                    both(word, b)
-                } else {
-                    either(word, b)
-                }
-            }
-            Constant::Stops => {
-                if op == 16 {
-                    both(word, b)
-                } else {
-                    either(word, b)
-                }
-            }
+            Constant::Value(_) => logical(op, word, b),
+            Constant::Stops => logical(op, word, b),
         },
     }
 }
 
-fn fold_strict(op: u8, kind: IntKind, a: Constant, b: Constant) -> Constant
+fn fold_strict(op: BinaryOp, kind: IntKind, a: Constant, b: Constant) -> Constant
     ensures { result ≡ spec.fold_strict op kind a b }
 {
     match a {
@@ -177,13 +182,12 @@ fn fold_strict(op: u8, kind: IntKind, a: Constant, b: Constant) -> Constant
 }
 
 /// An operator of two operands over constants that are taken in a type.
-pub fn fold_binary(op: u8, kind: IntKind, a: Constant, b: Constant) -> Constant
+pub fn fold_binary(op: BinaryOp, kind: IntKind, a: Constant, b: Constant) -> Constant
     ensures { result ≡ spec.fold_binary op kind a b }
 {
-    if op < 16 {
-        fold_strict(op, kind, a, b)
-    } else {
-        fold_logic(op, a, b)
+    match op {
+        BinaryOp::Arithmetic(_) | BinaryOp::Comparison(_) => fold_strict(op, kind, a, b),
+        BinaryOp::Logical(op) => fold_logic(op, a, b),
     }
 }
 
@@ -228,16 +232,6 @@ pub fn choose(kind: IntKind, test: Constant, a: Constant, b: Constant) -> Consta
         }
         Constant::Stops => Constant::Stops,
         Constant::No => Constant::No,
-    }
-}
-
-fn truth_word(holds: bool) -> Constant
-    ensures { result ≡ spec.truth_word holds }
-{
-    if holds {
-        Constant::Value(1)
-    } else {
-        Constant::Value(0)
     }
 }
 
@@ -409,54 +403,47 @@ fn answered(word: Option<u64>) -> Constant
     }
 }
 
-/// An operator on two words that are taken in the type.
-#[tactic(auto, unfolding(mx_base::specs::Operators::arithmetic_at, mx_base::specs::Operators::comparison_at))]
-fn binary_word(op: u8, kind: IntKind, a: u64, b: u64) -> Constant
-    ensures { result ≡ spec.binary_word op kind a b }
+/// The word that an operator calculates of two words that are taken in the type, or none where there is no quotient.
+fn calculated(op: Arithmetic, kind: IntKind, a: u64, b: u64) -> Option<u64>
+    ensures { result ≡ word_arithmetic op kind a b }
 {
-    if op == 0 {
-        Constant::Value(times(kind, a, b))
-    } else if op == 1 {
-        answered(over(kind, a, b))
-    } else if op == 2 {
-        answered(rest(kind, a, b))
-    } else if op == 3 {
-        Constant::Value(plus(kind, a, b))
-    } else if op == 4 {
-        Constant::Value(minus(kind, a, b))
-    } else if op == 5 {
-        Constant::Value(left(kind, a, b))
-    } else if op == 6 {
-        Constant::Value(right(kind, a, b))
-    } else if op == 13 {
-        Constant::Value(bits_and(kind, a, b))
-    } else if op == 14 {
-        Constant::Value(bits_xor(kind, a, b))
-    } else if op == 15 {
-        Constant::Value(bits_or(kind, a, b))
-    } else {
-        compared(op, kind, a, b)
+    match op {
+        Arithmetic::Mul => Some(times(kind, a, b)),
+        Arithmetic::Div => over(kind, a, b),
+        Arithmetic::Rem => rest(kind, a, b),
+        Arithmetic::Add => Some(plus(kind, a, b)),
+        Arithmetic::Sub => Some(minus(kind, a, b)),
+        Arithmetic::Shl => Some(left(kind, a, b)),
+        Arithmetic::Shr => Some(right(kind, a, b)),
+        Arithmetic::BitAnd => Some(bits_and(kind, a, b)),
+        Arithmetic::BitXor => Some(bits_xor(kind, a, b)),
+        Arithmetic::BitOr => Some(bits_or(kind, a, b)),
     }
 }
 
-#[tactic(auto, unfolding(mx_base::specs::Operators::comparison_at, mx_base::specs::Operators::compares))]
-fn compared(op: u8, kind: IntKind, a: u64, b: u64) -> Constant
-    ensures { result ≡ spec.compared_word (comparison_at op) kind a b }
+/// Whether two words that are taken in the type compare so.
+#[tactic(auto, unfolding(mx_base::specs::Operators::compares))]
+fn compared(op: Comparison, kind: IntKind, a: u64, b: u64) -> bool
+    ensures { result ≡ compares op (value_of kind a) (value_of kind b) }
 {
-    if op == 7 {
-        truth_word(below(kind, a, b))
-    } else if op == 8 {
-        truth_word(at_most(kind, a, b))
-    } else if op == 9 {
-        truth_word(below(kind, b, a))
-    } else if op == 10 {
-        truth_word(at_most(kind, b, a))
-    } else if op == 11 {
-        truth_word(equal(kind, a, b))
-    } else if op == 12 {
-        truth_word(!equal(kind, a, b))
-    } else {
-        Constant::No
+    match op {
+        Comparison::Less => below(kind, a, b),
+        Comparison::LessOrEqual => at_most(kind, a, b),
+        Comparison::Greater => below(kind, b, a),
+        Comparison::GreaterOrEqual => at_most(kind, b, a),
+        Comparison::Equal => equal(kind, a, b),
+        Comparison::NotEqual => !equal(kind, a, b),
+    }
+}
+
+/// An operator on two words that are taken in the type.
+fn binary_word(op: BinaryOp, kind: IntKind, a: u64, b: u64) -> Constant
+    ensures { result ≡ spec.binary_word op kind a b }
+{
+    match op {
+        BinaryOp::Arithmetic(op) => answered(calculated(op, kind, a, b)),
+        BinaryOp::Comparison(op) => truth_word(compared(op, kind, a, b)),
+        BinaryOp::Logical(op) => logical(op, a, Constant::Value(b)),
     }
 }
 

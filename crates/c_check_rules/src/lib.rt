@@ -21,8 +21,8 @@ pub use names::{
     Function, Local, Member, Scope, StructInfo, Variable, copy_name, copy_types, member_kind,
     member_named, same_name,
 };
-pub use operators::{binary_kind, choice_kind};
-pub use predeclared::{Bind, Found, predeclared_at};
+pub use operators::{binary_kind, choice_kind, moves, shifts, takes_away};
+pub use predeclared::{Bind, Builtin, Found, is_predeclared};
 pub use sizes::{
     LIMIT, align_in, inner_size, is_inner_sized, is_sized, is_within, scalars_in, size_in,
 };

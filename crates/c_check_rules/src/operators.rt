@@ -2,6 +2,7 @@
 
 ghost use Rattle.std.specs.Prelude.{◌≡◌, IfOk, if◌then◌else◌, Some, None};
 ghost use Rattle.c_check_rules.specs.Conversions as spec;
+ghost use Rattle.c_check_rules.specs.Operators as operator;
 ghost use Rattle.c_check_rules.specs.Kinds.{outer_of};
 ghost use Rattle.c_types.specs.Types.{Int};
 ghost use Rattle.mx_base.specs.declared.numbers.IntKind.TheVariants.{I64};
@@ -10,7 +11,8 @@ use crate::conversions::{common, is_scalar, is_void_pointer, promoted};
 use crate::kinds::{Outer, Type, same};
 use crate::names::StructInfo;
 use crate::sizes::is_inner_sized;
-use mx_base::{IntKind, OutOfMemory};
+use c_tree::BinaryOp;
+use mx_base::{Arithmetic, IntKind, OutOfMemory};
 use std::alloc::Global;
 
 fn product(alloc: Global, a: Outer, b: Outer) -> Option<Type>
@@ -132,11 +134,86 @@ fn answers_int(alloc: Global, fits: bool) -> Option<Type>
     }
 }
 
+/// Whether an operator shifts: it is done in the type of its left operand.
+pub fn shifts(op: Arithmetic) -> bool
+    ensures { result ≡ operator.shifts op }
+{
+    match op {
+        Arithmetic::Shl | Arithmetic::Shr => true,
+        Arithmetic::Mul
+        | Arithmetic::Div
+        | Arithmetic::Rem
+        | Arithmetic::Add
+        | Arithmetic::Sub
+        | Arithmetic::BitAnd
+        | Arithmetic::BitXor
+        | Arithmetic::BitOr => false,
+    }
+}
+
+/// Whether an operator takes a number away from a pointer, or a pointer from another.
+pub fn takes_away(op: Arithmetic) -> bool
+    ensures { result ≡ operator.takes_away op }
+{
+    match op {
+        Arithmetic::Sub => true,
+        Arithmetic::Mul
+        | Arithmetic::Div
+        | Arithmetic::Rem
+        | Arithmetic::Add
+        | Arithmetic::Shl
+        | Arithmetic::Shr
+        | Arithmetic::BitAnd
+        | Arithmetic::BitXor
+        | Arithmetic::BitOr => false,
+    }
+}
+
+/// Whether an operator moves a pointer by a number of its targets.
+pub fn moves(op: Arithmetic) -> bool
+    ensures { result ≡ operator.moves op }
+{
+    match op {
+        Arithmetic::Add | Arithmetic::Sub => true,
+        Arithmetic::Mul
+        | Arithmetic::Div
+        | Arithmetic::Rem
+        | Arithmetic::Shl
+        | Arithmetic::Shr
+        | Arithmetic::BitAnd
+        | Arithmetic::BitXor
+        | Arithmetic::BitOr => false,
+    }
+}
+
+/// The type of an operator that calculates, or none where it takes no such operands.
+fn arithmetic_kind(
+    alloc: Global,
+    structs: &[StructInfo],
+    op: Arithmetic,
+    a: &Type,
+    b: &Type,
+) -> Result<Option<Type>, OutOfMemory>
+    ensures { IfOk result (λ t. t ≡ spec.arithmetic_kind structs.now op a.now b.now) }
+{
+    match op {
+        Arithmetic::Mul
+        | Arithmetic::Div
+        | Arithmetic::Rem
+        | Arithmetic::BitAnd
+        | Arithmetic::BitXor
+        | Arithmetic::BitOr => Ok(product(alloc, a.outer(), b.outer())),
+        Arithmetic::Add => sum(alloc, structs, a, b),
+        Arithmetic::Sub => difference(alloc, structs, a, b),
+        Arithmetic::Shl | Arithmetic::Shr => Ok(shift(alloc, a.outer(), b.outer())),
+    }
+}
+
 /// The type of an operator of two operands, of which neither is an array, or none where it takes no such operands.
 pub fn binary_kind(
     alloc: Global,
     structs: &[StructInfo],
-    op: u8,
+    op: BinaryOp,
     a: &Type,
     b: &Type,
     zeros: (bool, bool),
@@ -144,12 +221,9 @@ pub fn binary_kind(
     ensures { IfOk result (λ t. t ≡ spec.binary_kind structs.now op a.now b.now zeros.0 zeros.1) }
 {
     match op {
-        0..=2 | 13..=15 => Ok(product(alloc, a.outer(), b.outer())),
-        3 => sum(alloc, structs, a, b),
-        4 => difference(alloc, structs, a, b),
-        5..=6 => Ok(shift(alloc, a.outer(), b.outer())),
-        7..=12 => Ok(answers_int(alloc, compared(a, b, zeros.0, zeros.1))),
-        _ => Ok(answers_int(alloc, is_scalar(a) && is_scalar(b))),
+        BinaryOp::Arithmetic(op) => arithmetic_kind(alloc, structs, op, a, b),
+        BinaryOp::Comparison(_) => Ok(answers_int(alloc, compared(a, b, zeros.0, zeros.1))),
+        BinaryOp::Logical(_) => Ok(answers_int(alloc, is_scalar(a) && is_scalar(b))),
     }
 }
 

@@ -5,20 +5,36 @@ ghost use Rattle.c_check_rules.specs.Predeclared as spec;
 
 use crate::kinds::Type;
 use crate::names::same_name;
-use mx_base::{IntKind, OutOfMemory};
+use mx_base::{CService, IntKind, OutOfMemory};
 use sqlite_items::Items;
 use std::alloc::Global;
 
+/// A builtin on bounds.
+#[derive(Clone, Copy, Debug, PartialEq, Eq)]
+pub enum Builtin {
+    /// `__builtin___bnd_set_ptr_bounds`
+    SetBounds,
+    /// `__builtin___bnd_narrow_ptr_bounds`
+    NarrowBounds,
+    /// `__builtin___bnd_copy_ptr_bounds`
+    CopyBounds,
+    /// `__builtin___bnd_init_ptr_bounds`
+    InitBounds,
+    /// `__builtin___bnd_get_ptr_lbound`
+    LowerBound,
+    /// `__builtin___bnd_get_ptr_ubound`
+    UpperBound,
+}
+
 /// What a name is bound to: a global variable or a function by its number in the source, each counted by first declarations from 0; a parameter
-/// or local by its number in its function; a service (`print`, `put`, `get`, `alloc`, `free`, `exit`) or a builtin (`set_ptr_bounds`,
-/// `narrow_ptr_bounds`, `copy_ptr_bounds`, `init_ptr_bounds`, `get_ptr_lbound`, `get_ptr_ubound`) by its place in this list.
+/// or local by its number in its function; a service or a builtin.
 #[derive(Clone, Copy, Debug)]
 pub enum Bind {
     Global(u32),
     Local(u32),
     Fun(u32),
-    Service(u8),
-    Builtin(u8),
+    Service(CService),
+    Builtin(Builtin),
 }
 
 /// What a name stands for: nothing, a variable of a type, or what may be called, with the types of its result and its parameters.
@@ -29,45 +45,51 @@ pub enum Found {
     Callable(Bind, Type, Items<Type>),
 }
 
-/// The place of a predeclared name: the services, then the builtins.
-pub fn predeclared_at(name: &[u8]) -> Option<u8>
-    ensures { result ≡ spec.predeclared_at name.now }
+fn service_named(name: &[u8]) -> Option<CService>
+    ensures { result ≡ spec.service_named name.now }
 {
     if same_name(name, b"print") {
-        Some(0)
+        Some(CService::Print)
     } else if same_name(name, b"put") {
-        Some(1)
+        Some(CService::Put)
     } else if same_name(name, b"get") {
-        Some(2)
+        Some(CService::Get)
     } else if same_name(name, b"alloc") {
-        Some(3)
+        Some(CService::Alloc)
     } else if same_name(name, b"free") {
-        Some(4)
+        Some(CService::Free)
     } else if same_name(name, b"exit") {
-        Some(5)
-    } else {
-        builtin_at(name)
-    }
-}
-
-fn builtin_at(name: &[u8]) -> Option<u8>
-    ensures { result ≡ spec.builtin_at name.now }
-{
-    if same_name(name, b"__builtin___bnd_set_ptr_bounds") {
-        Some(6)
-    } else if same_name(name, b"__builtin___bnd_narrow_ptr_bounds") {
-        Some(7)
-    } else if same_name(name, b"__builtin___bnd_copy_ptr_bounds") {
-        Some(8)
-    } else if same_name(name, b"__builtin___bnd_init_ptr_bounds") {
-        Some(9)
-    } else if same_name(name, b"__builtin___bnd_get_ptr_lbound") {
-        Some(10)
-    } else if same_name(name, b"__builtin___bnd_get_ptr_ubound") {
-        Some(11)
+        Some(CService::Exit)
     } else {
         None
     }
+}
+
+fn builtin_named(name: &[u8]) -> Option<Builtin>
+    ensures { result ≡ spec.builtin_named name.now }
+{
+    if same_name(name, b"__builtin___bnd_set_ptr_bounds") {
+        Some(Builtin::SetBounds)
+    } else if same_name(name, b"__builtin___bnd_narrow_ptr_bounds") {
+        Some(Builtin::NarrowBounds)
+    } else if same_name(name, b"__builtin___bnd_copy_ptr_bounds") {
+        Some(Builtin::CopyBounds)
+    } else if same_name(name, b"__builtin___bnd_init_ptr_bounds") {
+        Some(Builtin::InitBounds)
+    } else if same_name(name, b"__builtin___bnd_get_ptr_lbound") {
+        Some(Builtin::LowerBound)
+    } else if same_name(name, b"__builtin___bnd_get_ptr_ubound") {
+        Some(Builtin::UpperBound)
+    } else {
+        None
+    }
+}
+
+/// Whether a name is that of a service or builtin.
+pub fn is_predeclared(name: &[u8]) -> bool
+    ensures { result ≡ spec.is_predeclared name.now }
+{
+    service_named(name).is_some() || builtin_named(name).is_some()
 }
 
 /// A parameter or result of something predeclared.
@@ -116,35 +138,37 @@ fn callable(
     Ok(Found::Callable(bind, result_kind, params))
 }
 
-fn service(alloc: Global, place: u8) -> Result<Found, OutOfMemory>
-    ensures { IfOk result (λ found. found ≡ spec.service place) }
+fn found_service(alloc: Global, service: CService) -> Result<Found, OutOfMemory>
+    ensures { IfOk result (λ found. found ≡ spec.service service) }
 {
-    let bind = Bind::Service(place);
-    match place {
-        0 => callable(alloc, bind, Simple::Void, &[Simple::Long]),
-        1 => callable(alloc, bind, Simple::Void, &[Simple::Int]),
-        2 => callable(alloc, bind, Simple::Int, &[]),
-        3 => callable(alloc, bind, Simple::Pointer, &[Simple::UnsignedLong]),
-        4 => callable(alloc, bind, Simple::Int, &[Simple::Pointer]),
-        _ => callable(alloc, bind, Simple::Void, &[Simple::Int]),
+    let bind = Bind::Service(service);
+    match service {
+        CService::Print => callable(alloc, bind, Simple::Void, &[Simple::Long]),
+        CService::Put => callable(alloc, bind, Simple::Void, &[Simple::Int]),
+        CService::Get => callable(alloc, bind, Simple::Int, &[]),
+        CService::Alloc => callable(alloc, bind, Simple::Pointer, &[Simple::UnsignedLong]),
+        CService::Free => callable(alloc, bind, Simple::Int, &[Simple::Pointer]),
+        CService::Exit => callable(alloc, bind, Simple::Void, &[Simple::Int]),
     }
 }
 
-fn builtin(alloc: Global, place: u8) -> Result<Found, OutOfMemory>
-    ensures { IfOk result (λ found. found ≡ spec.builtin place) }
+fn found_builtin(alloc: Global, builtin: Builtin) -> Result<Found, OutOfMemory>
+    ensures { IfOk result (λ found. found ≡ spec.builtin builtin) }
 {
-    let bind = Bind::Builtin(place);
+    let bind = Bind::Builtin(builtin);
     let pointer = Simple::Pointer;
-    match place {
-        0 => callable(alloc, bind, pointer, &[pointer, Simple::UnsignedLong]),
-        1 => callable(
+    match builtin {
+        Builtin::SetBounds => callable(alloc, bind, pointer, &[pointer, Simple::UnsignedLong]),
+        Builtin::NarrowBounds => callable(
             alloc,
             bind,
             pointer,
             &[pointer, pointer, Simple::UnsignedLong],
         ),
-        2 => callable(alloc, bind, pointer, &[pointer, pointer]),
-        _ => callable(alloc, bind, pointer, &[pointer]),
+        Builtin::CopyBounds => callable(alloc, bind, pointer, &[pointer, pointer]),
+        Builtin::InitBounds => callable(alloc, bind, pointer, &[pointer]),
+        Builtin::LowerBound => callable(alloc, bind, pointer, &[pointer]),
+        Builtin::UpperBound => callable(alloc, bind, pointer, &[pointer]),
     }
 }
 
@@ -152,14 +176,11 @@ fn builtin(alloc: Global, place: u8) -> Result<Found, OutOfMemory>
 pub fn predeclared(alloc: Global, name: &[u8]) -> Result<Found, OutOfMemory>
     ensures { IfOk result (λ found. found ≡ spec.predeclared name.now) }
 {
-    match predeclared_at(name) {
+    if let Some(named) = service_named(name) {
+        return found_service(alloc, named);
+    }
+    match builtin_named(name) {
+        Some(named) => found_builtin(alloc, named),
         None => Ok(Found::Missing),
-        Some(place) => {
-            if place < 6 {
-                service(alloc, place)
-            } else {
-                builtin(alloc, place - 6)
-            }
-        }
     }
 }

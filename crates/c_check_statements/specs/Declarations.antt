@@ -15,7 +15,7 @@ use Rattle.c_check_rules.specs.Kinds.{same_kinds}
 use Rattle.c_check_rules.specs.Sizes.{is_sized}
 use Rattle.c_check_rules.specs.Names.{local_names, numbered, variable_at, function_at}
 use Rattle.c_check_rules.specs.Conversions.{is_scalar, is_void}
-use Rattle.c_check_rules.specs.Predeclared.{predeclared_at}
+use Rattle.c_check_rules.specs.Predeclared.{is_predeclared}
 use Rattle.c_check_typing.specs.declared.typed.Notes.{Notes}
 use Rattle.c_check_typing.specs.declared.fault.CheckKind.{CheckKind}
 use Rattle.c_check_typing.specs.declared.fault.CheckKind.TheVariants.{Unknown, Twice, BadCount, NotConst, BadType}
@@ -186,7 +186,7 @@ text_prefix = codes "__text_"
 
 -- a name that no global or function may have: that of a service or builtin, and what begins like the name of the literals
 abbrev pub is_reserved : List ℕ → Bool
-is_reserved name = is_some (predeclared_at name) || bytes_eq (take 7 name) text_prefix
+is_reserved name = is_predeclared name || bytes_eq (take 7 name) text_prefix
 
 abbrev pub same_known : CType → Option CType → Bool
 same_known kind None = true

@@ -1,7 +1,8 @@
 -- How many values wait at most at one place of a tree: the earlier arguments of a call, the left operand of an operator other than `&&`, `||` and
 -- `?:`, the address of an assignment, and the array or pointer of an index, each while what comes after it is evaluated. What stands under
 -- `sizeof` and in the counts of a declaration counts too.
-use Rattle.std.specs.Prelude.{ℕ, ◌+◌, ◌==◌, ◌||◌, max, Bool, if◌then◌else◌, Option, None, Some, List, [], ◌∷◌, map}
+use Rattle.std.specs.Prelude.{ℕ, ◌+◌, max, if◌then◌else◌, Option, None, Some, List, [], ◌∷◌, map}
+use Rattle.c_tree.specs.Operators.{is_logical}
 use Rattle.c_tree.specs.declared.tree.Expr.{Expr, fold-Expr}
 use Rattle.c_tree.specs.declared.tree.ExprKind.{ExprKind-F}
 use Rattle.c_tree.specs.declared.tree.ExprKind.TheOpen as e
@@ -24,10 +25,6 @@ any (Some n) = n
 abbrev pub waits_from : (waiting : ℕ) → List ℕ → ℕ
 waits_from waiting [] = 0
 waits_from waiting (n ∷ ns) = max (n + waiting) (waits_from (waiting + 1) ns)
-
--- the operators `&&` and `||`
-abbrev pub is_logical : ℕ → Bool
-is_logical op = op == 16 || op == 17
 
 abbrev pub expr_waits : ExprKind-F ℕ ℕ → ℕ
 expr_waits (e.Number n kind) = 0

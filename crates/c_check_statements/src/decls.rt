@@ -10,8 +10,8 @@ use crate::counts::{Counts, arrayed, read_counts};
 use crate::reading::refused;
 use crate::state::State;
 use c_check_rules::{
-    Bind, Function, Local, NamedItems, Scope, StructInfo, Type, Variable, copy_name, is_scalar,
-    is_sized, is_void, predeclared_at, same, same_name,
+    Bind, Function, Local, NamedItems, Scope, StructInfo, Type, Variable, copy_name,
+    is_predeclared, is_scalar, is_sized, is_void, same, same_name,
 };
 use c_check_typing::{CheckFault, CheckKind, Notes, base_kind, starred};
 use c_tree::{Decl, Name};
@@ -265,7 +265,7 @@ fn is_reserved(name: &[u8]) -> bool
     ensures { result ≡ spec.is_reserved name.now }
 {
     let most = name.len().min(7);
-    predeclared_at(name).is_some() || same_name(&name[..most], b"__text_")
+    is_predeclared(name) || same_name(&name[..most], b"__text_")
 }
 
 /// Whether a name is `main`.

@@ -1,9 +1,10 @@
 //! How many values wait at most at one place of a body.
 
 ghost use Rattle.std.specs.Prelude.{◌≡◌, ◌+◌, ◌-◌, ◌^◌, min, max, map, option_map};
+ghost use Rattle.c_tree.specs.Operators as operators;
 ghost use Rattle.c_check_statements.specs.Waits.{most, any, waits_from, waits, maybe_waits, waits_init, maybe_waits_init, waits_stmt};
 
-use c_tree::{Decl, Expr, ExprKind, Init, InitKind, Stmt, StmtKind};
+use c_tree::{BinaryOp, Decl, Expr, ExprKind, Init, InitKind, Stmt, StmtKind};
 use sqlite_items::Boxed;
 
 /// The count of an operator's operands, of which the right one is evaluated while the left one waits.
@@ -11,6 +12,16 @@ fn behind(a: u32, b: u32) -> u32
     ensures { result ≡ min (max a (b + 1)) (2 ^ 32 - 1) }
 {
     a.max(b.saturating_add(1))
+}
+
+/// Whether an operator may leave its right operand out: `&&` and `||`.
+fn is_logical(op: BinaryOp) -> bool
+    ensures { result ≡ operators.is_logical op }
+{
+    match op {
+        BinaryOp::Logical(_) => true,
+        BinaryOp::Arithmetic(_) | BinaryOp::Comparison(_) => false,
+    }
 }
 
 #[cycle(exprs)]
@@ -23,7 +34,7 @@ fn of_expr(expr: &Expr) -> u32
         ExprKind::Var(_) => 0,
         ExprKind::Unary(_, a) => of_expr(a.get()),
         ExprKind::Binary(op, a, b) => {
-            if *op == 16 || *op == 17 {
+            if is_logical(*op) {
                 of_expr(a.get()).max(of_expr(b.get()))
             } else {
                 behind(of_expr(a.get()), of_expr(b.get()))

@@ -4,7 +4,10 @@ use Rattle.std.specs.Prelude.{None, Some, codes}
 use Rattle.mx_base.specs.declared.places.Place.{Place}
 use Rattle.mx_base.specs.declared.numbers.IntKind.TheVariants.{I8, I32, I64, U64}
 use Rattle.mx_base.specs.Numbers.{value_of, number_of, as_signed, wrapped, residue}
-use Rattle.mx_base.specs.Operators.{arithmetic_at, word_arithmetic, arithmetic}
+use Rattle.mx_base.specs.declared.operators.Arithmetic.TheVariants.{Div, Sub}
+use Rattle.mx_base.specs.Operators.{word_arithmetic, arithmetic}
+use Rattle.c_tree.specs.declared.operators.UnaryOp.TheVariants as u
+use Rattle.c_tree.specs.declared.operators.BinaryOp.TheVariants as p
 use Rattle.c_tree.specs.declared.tree.Expr.{Expr, the_lemmas}
 use Rattle.c_tree.specs.declared.tree.ExprKind.{ExprKind}
 use Rattle.c_tree.specs.declared.tree.ExprKind.TheVariants as v
@@ -71,11 +74,11 @@ unfolding leaf two name_own assign_own found_in
 number_assigned = search (rules, the_lemmas)
 
 -- `&x` takes the local, and `*x` is no pointer
-taken : ((seen (at 1 (v.Unary 4 (name 2 (codes "x")))) false scope).after no_notes).taken ≡ 0 ∷ []
+taken : ((seen (at 1 (v.Unary u.AddressOf (name 2 (codes "x")))) false scope).after no_notes).taken ≡ 0 ∷ []
 unfolding leaf one name_own unary_own found_in
 taken = search (rules, the_lemmas)
 
-no_pointer : (seen (at 1 (v.Unary 3 (name 2 (codes "x")))) false scope).broken ≡ broken 1 BadType ∷ []
+no_pointer : (seen (at 1 (v.Unary u.Deref (name 2 (codes "x")))) false scope).broken ≡ broken 1 BadType ∷ []
 unfolding leaf one name_own unary_own found_in
 no_pointer = search (rules, the_lemmas)
 
@@ -89,7 +92,7 @@ function_given : (seen (at 1 (v.Call (codes "f") (name 3 (codes "f") ∷ []))) f
 unfolding leaf call name_own call_own found_in
 function_given = search (rules, the_lemmas)
 
-function_alone : (seen (at 1 (v.Unary 0 (name 2 (codes "f")))) false scope).broken ≡ broken 2 BadType ∷ []
+function_alone : (seen (at 1 (v.Unary u.Neg (name 2 (codes "f")))) false scope).broken ≡ broken 2 BadType ∷ []
 unfolding leaf one name_own unary_own found_in
 function_alone = search (rules, the_lemmas)
 
@@ -99,11 +102,11 @@ unfolding leaf call name_own call_own found_in
 arguments_first = search (rules, the_lemmas)
 
 -- `1 / 0` stops as a constant, and `p - p` is a `long`
-stops : (seen (at 1 (v.Binary 1 (number 1 1) (number 5 0))) false scope).typed ≡ Some (value (Int I32) c.Stops)
-unfolding leaf two binary_own arithmetic_at word_arithmetic arithmetic value_of number_of as_signed wrapped residue
+stops : (seen (at 1 (v.Binary (p.Arithmetic Div) (number 1 1) (number 5 0))) false scope).typed ≡ Some (value (Int I32) c.Stops)
+unfolding leaf two binary_own word_arithmetic arithmetic value_of number_of as_signed wrapped residue
 stops = search (rules, the_lemmas)
 
-distance : (seen (at 1 (v.Binary 4 (name 1 (codes "p")) (name 5 (codes "p")))) false scope).typed ≡ Some (value (Int I64) c.No)
+distance : (seen (at 1 (v.Binary (p.Arithmetic Sub) (name 1 (codes "p")) (name 5 (codes "p")))) false scope).typed ≡ Some (value (Int I64) c.No)
 unfolding leaf two name_own binary_own found_in
 distance = search (rules, the_lemmas)
 

@@ -3,6 +3,12 @@
 use Rattle.std.specs.Prelude.{ℕ, zero, suc, ◌+◌, ◌==◌, nat_lt, Bool, true, false, not, ◌&&◌, ◌||◌, if◌then◌else◌, is_some, List, [], ◌∷◌, ◌++◌, length, Option, None, Some, slice_get}
 use Rattle.mx_base.specs.declared.numbers.IntKind.{IntKind}
 use Rattle.mx_base.specs.declared.numbers.IntKind.TheVariants.{I8, I32, I64, U64}
+use Rattle.mx_base.specs.declared.operators.Arithmetic.{Arithmetic}
+use Rattle.mx_base.specs.declared.operators.Arithmetic.TheVariants.{Mul, Div, Sub}
+use Rattle.c_tree.specs.declared.operators.UnaryOp.{UnaryOp}
+use Rattle.c_tree.specs.declared.operators.UnaryOp.TheVariants as u
+use Rattle.c_tree.specs.declared.operators.BinaryOp.{BinaryOp}
+use Rattle.c_tree.specs.declared.operators.BinaryOp.TheVariants as p
 use Rattle.c_tree.specs.declared.tree.Base.{Base}
 use Rattle.c_tree.specs.declared.tree.Base.TheVariants as b
 use Rattle.c_types.specs.Types.{CType, Void, Int, Pointer, Array, Struct}
@@ -20,6 +26,7 @@ use Rattle.c_check_rules.specs.declared.names.StructInfo.{StructInfo}
 use Rattle.c_check_rules.specs.Kinds.{outer_of, inner_of}
 use Rattle.c_check_rules.specs.Sizes.{limit, size_in, is_sized, scalars_in}
 use Rattle.c_check_rules.specs.Names.{tag_at, numbered, member_named}
+use Rattle.c_check_rules.specs.Operators.{shifts, takes_away, moves}
 use Rattle.c_check_rules.specs.Conversions.{promoted, common, is_scalar, is_integer_form, is_void_pointer, converts, fits_struct, cast_fits, binary_kind, choice_kind}
 use Rattle.c_check_rules.specs.Constants.{fold_unary, fold_binary, cast_constant, choose}
 use Rattle.c_check_typing.specs.declared.typed.Typed.{Typed}
@@ -120,7 +127,7 @@ name_own functions (f.Callable bind result params) = function_named functions bi
 -- ---- operators of one operand
 
 -- `-` and `~` take an integer and give its promoted type
-abbrev pub sign_own : ℕ → Outer → Constant → Own
+abbrev pub sign_own : UnaryOp → Outer → Constant → Own
 sign_own op o.Void constant = wrong (BadType ∷ [])
 sign_own op (o.Int k) constant = fine (value (Int (promoted k)) (fold_unary op (promoted k) constant))
 sign_own op o.Pointer constant = wrong (BadType ∷ [])
@@ -130,8 +137,8 @@ sign_own op (o.Struct number) constant = wrong (BadType ∷ [])
 -- a pointer is taken as its address
 abbrev pub not_constant : Outer → Constant → Constant
 not_constant o.Void constant = c.No
-not_constant (o.Int k) constant = fold_unary 2 k constant
-not_constant o.Pointer constant = fold_unary 2 U64 constant
+not_constant (o.Int k) constant = fold_unary u.Not k constant
+not_constant o.Pointer constant = fold_unary u.Not U64 constant
 not_constant (o.Array count) constant = c.No
 not_constant (o.Struct number) constant = c.No
 
@@ -148,15 +155,20 @@ abbrev pub address_own : Typed → Own
 address_own a = if a.is_place then record { typed = Some (value (Pointer a.kind) c.No); noted = λ notes. with_kind (Pointer a.kind) (with_taken a.local notes); broken = [] }
     else wrong (NotPlace ∷ [])
 
--- `-`, `~`, `!`, `*`, `&`, by their places in this list
-unfoldable pub unary_own : List StructInfo → ℕ → Typed → Own
-unary_own structs op a = if op == 4 then address_own a else if op == 3 then target_own structs a else if op == 2 then not_own a else sign_own op (outer_of a.kind) a.constant
+unfoldable pub unary_own : List StructInfo → UnaryOp → Typed → Own
+unary_own structs u.Neg a = sign_own u.Neg (outer_of a.kind) a.constant
+unary_own structs u.BitNot a = sign_own u.BitNot (outer_of a.kind) a.constant
+unary_own structs u.Not a = not_own a
+unary_own structs u.Deref a = target_own structs a
+unary_own structs u.AddressOf a = address_own a
 
 -- ---- operators of two operands
 
 -- shifts are done in the type of their left operand, the others in the type in which both meet
-abbrev pub done_in : ℕ → IntKind → IntKind → IntKind
-done_in op k l = if nat_lt 4 op && nat_lt op 7 then promoted k else common k l
+abbrev pub done_in : BinaryOp → IntKind → IntKind → IntKind
+done_in (p.Arithmetic op) k l = if shifts op then promoted k else common k l
+done_in (p.Comparison op) k l = common k l
+done_in (p.Logical op) k l = common k l
 
 -- the size of what a pointer points to
 abbrev pub or_nothing : Option ℕ → ℕ
@@ -168,31 +180,36 @@ target_size structs pointer = or_nothing (size_in structs (inner_of pointer))
 
 -- so many targets of a pointer, in bytes
 abbrev pub scaled : List StructInfo → (pointer : CType) → Constant → Constant
-scaled structs pointer by = fold_binary 0 U64 by (c.Value (target_size structs pointer))
+scaled structs pointer by = fold_binary (p.Arithmetic Mul) U64 by (c.Value (target_size structs pointer))
 
--- `+` and `-` of a pointer and an integer; the other operators take the integer as it is
-abbrev pub moved_constant : List StructInfo → ℕ → (pointer : CType) → (p by : Constant) → Constant
-moved_constant structs op pointer p by = fold_binary op U64 p (if op == 3 || op == 4 then scaled structs pointer by else by)
-
-abbrev pub added_constant : List StructInfo → ℕ → (pointer : CType) → (by p : Constant) → Constant
-added_constant structs op pointer by p = fold_binary op U64 (if op == 3 then scaled structs pointer by else by) p
+-- what an operator of a pointer and an integer counts: `+` and `-` targets, and the others the integer as it is
+abbrev pub counted : List StructInfo → BinaryOp → (pointer : CType) → (by : Constant) → Constant
+counted structs (p.Arithmetic op) pointer by = if moves op then scaled structs pointer by else by
+counted structs (p.Comparison op) pointer by = by
+counted structs (p.Logical op) pointer by = by
 
 -- the signed difference of two addresses, divided by the size of what they point to
-abbrev pub apart_constant : List StructInfo → ℕ → (pointer : CType) → (p q : Constant) → Constant
-apart_constant structs op pointer p q = if op == 4 then fold_binary 1 I64 (fold_binary 4 I64 p q) (c.Value (target_size structs pointer)) else fold_binary op U64 p q
+abbrev pub distance : List StructInfo → (pointer : CType) → (a e : Constant) → Constant
+distance structs pointer a e = fold_binary (p.Arithmetic Div) I64 (fold_binary (p.Arithmetic Sub) I64 a e) (c.Value (target_size structs pointer))
+
+-- an operator of two addresses
+abbrev pub apart_constant : List StructInfo → BinaryOp → (pointer : CType) → (a e : Constant) → Constant
+apart_constant structs (p.Arithmetic op) pointer a e = if takes_away op then distance structs pointer a e else fold_binary (p.Arithmetic op) U64 a e
+apart_constant structs (p.Comparison op) pointer a e = fold_binary (p.Comparison op) U64 a e
+apart_constant structs (p.Logical op) pointer a e = fold_binary (p.Logical op) U64 a e
 
 -- a pointer is taken as its address
-abbrev pub constant_by : List StructInfo → ℕ → Outer → Outer → (left right : CType) → Constant → Constant → Constant
+abbrev pub constant_by : List StructInfo → BinaryOp → Outer → Outer → (left right : CType) → Constant → Constant → Constant
 constant_by structs op (o.Int k) (o.Int l) left right x y = fold_binary op (done_in op k l) x y
-constant_by structs op (o.Int k) o.Pointer left right x y = added_constant structs op right x y
-constant_by structs op o.Pointer (o.Int l) left right x y = moved_constant structs op left x y
+constant_by structs op (o.Int k) o.Pointer left right x y = fold_binary op U64 (counted structs op right x) y
+constant_by structs op o.Pointer (o.Int l) left right x y = fold_binary op U64 x (counted structs op left y)
 constant_by structs op o.Pointer o.Pointer left right x y = apart_constant structs op left x y
 constant_by structs op _ _ left right x y = c.No
 
-abbrev pub binary_constant : List StructInfo → ℕ → Typed → Typed → Constant
+abbrev pub binary_constant : List StructInfo → BinaryOp → Typed → Typed → Constant
 binary_constant structs op a e = constant_by structs op (outer_of a.kind) (outer_of e.kind) a.kind e.kind a.constant e.constant
 
-unfoldable pub binary_own : List StructInfo → ℕ → Typed → Typed → Own
+unfoldable pub binary_own : List StructInfo → BinaryOp → Typed → Typed → Own
 binary_own structs op a e = of_kind (binary_kind structs op (decayed a.kind) (decayed e.kind) a.is_zero e.is_zero)
     (binary_constant structs op a e)
 
@@ -224,26 +241,21 @@ is_no_source e = is_struct (outer_of e.kind) && not e.is_place
 abbrev pub is_assigned : CType → Typed → Bool
 is_assigned kind e = converts kind (decayed e.kind) e.is_zero || fits_struct kind e.kind
 
--- the operator of `+=`, `-=`, `*=`, `/=`, `%=`, `&=`, `|=`, `^=`, `<<=`, `>>=`, which have the places 1 to 10, among those of two operands
-abbrev pub operator_of : ℕ → ℕ
-operator_of op = if op == 1 then 3 else if op == 2 then 4 else if op == 3 then 0 else if op == 4 then 1 else if op == 5 then 2
-    else if op == 6 then 13 else if op == 7 then 15 else if op == 8 then 14 else if op == 9 then 5 else 6
-
 abbrev pub converts_back : CType → Option CType → Bool
 converts_back kind None = false
 converts_back kind (Some result) = converts kind result false
 
 -- a compound assignment is its operator and then an assignment
-abbrev pub fits_assignment : List StructInfo → Option ℕ → Typed → Typed → Bool
+abbrev pub fits_assignment : List StructInfo → Option Arithmetic → Typed → Typed → Bool
 fits_assignment structs None a e = is_assigned a.kind e
-fits_assignment structs (Some op) a e = converts_back a.kind (binary_kind structs (operator_of op) (decayed a.kind) (decayed e.kind) a.is_zero e.is_zero)
+fits_assignment structs (Some op) a e = converts_back a.kind (binary_kind structs (p.Arithmetic op) (decayed a.kind) (decayed e.kind) a.is_zero e.is_zero)
 
 -- a struct of more than 64 scalars is copied
-abbrev pub is_large_copy : List StructInfo → Option ℕ → Typed → Typed → Bool
+abbrev pub is_large_copy : List StructInfo → Option Arithmetic → Typed → Typed → Bool
 is_large_copy structs None a e = fits_struct a.kind e.kind && nat_lt 64 (scalars_in structs a.kind)
 is_large_copy structs (Some op) a e = false
 
-unfoldable pub assign_own : List StructInfo → Option ℕ → Typed → Typed → Own
+unfoldable pub assign_own : List StructInfo → Option Arithmetic → Typed → Typed → Own
 assign_own structs op a e = judged (breaks NotPlace (is_no_target a || is_no_source e) ++ (breaks BadType (not (fits_assignment structs op a e)) ++ breaks LargeCopy (is_large_copy structs op a e)))
     (value a.kind c.No)
 

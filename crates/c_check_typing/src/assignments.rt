@@ -11,7 +11,8 @@ use c_check_rules::{
     Constant, Outer, Scope, StructInfo, Type, binary_kind, converts, fits_struct, is_inner_sized,
     scalars_in,
 };
-use mx_base::{OutOfMemory, Place};
+use c_tree::BinaryOp;
+use mx_base::{Arithmetic, OutOfMemory, Place};
 use std::alloc::Global;
 
 /// Whether nothing can be assigned to it.
@@ -36,33 +37,6 @@ pub fn is_assigned(alloc: Global, kind: &Type, b: &Typed) -> Result<bool, OutOfM
     Ok(converts(kind, &source, b.is_zero) || fits_struct(kind, &b.kind))
 }
 
-/// The operator of a compound assignment, among those of two operands.
-fn operator_of(op: u8) -> u8
-    ensures { result ≡ rule.operator_of op }
-{
-    if op == 1 {
-        3
-    } else if op == 2 {
-        4
-    } else if op == 3 {
-        0
-    } else if op == 4 {
-        1
-    } else if op == 5 {
-        2
-    } else if op == 6 {
-        13
-    } else if op == 7 {
-        15
-    } else if op == 8 {
-        14
-    } else if op == 9 {
-        5
-    } else {
-        6
-    }
-}
-
 fn converts_back(kind: &Type, result_kind: &Option<Type>) -> bool
     ensures { result ≡ rule.converts_back kind.now result_kind.now }
 {
@@ -75,7 +49,7 @@ fn converts_back(kind: &Type, result_kind: &Option<Type>) -> bool
 fn fits_assignment(
     alloc: Global,
     structs: &[StructInfo],
-    op: Option<u8>,
+    op: Option<Arithmetic>,
     a: &Typed,
     b: &Typed,
 ) -> Result<bool, OutOfMemory>
@@ -87,11 +61,18 @@ fn fits_assignment(
     let left = a.decayed(alloc)?;
     let right = b.decayed(alloc)?;
     let zeros = (a.is_zero, b.is_zero);
-    let kind = binary_kind(alloc, structs, operator_of(op), &left, &right, zeros)?;
+    let kind = binary_kind(
+        alloc,
+        structs,
+        BinaryOp::Arithmetic(op),
+        &left,
+        &right,
+        zeros,
+    )?;
     Ok(converts_back(&a.kind, &kind))
 }
 
-fn is_large_copy(structs: &[StructInfo], op: Option<u8>, a: &Typed, b: &Typed) -> bool
+fn is_large_copy(structs: &[StructInfo], op: Option<Arithmetic>, a: &Typed, b: &Typed) -> bool
     ensures { result ≡ rule.is_large_copy structs.now op a.now b.now }
 {
     match op {
@@ -107,7 +88,7 @@ pub fn end_assign(
     scope: &Scope,
     notes: &mut Notes,
     place: Place,
-    op: Option<u8>,
+    op: Option<Arithmetic>,
     a: Typed,
     b: Typed,
 ) -> Result<Typed, CheckFault>

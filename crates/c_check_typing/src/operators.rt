@@ -9,9 +9,11 @@ use crate::fault::{CheckFault, CheckKind};
 use crate::typed::{Notes, Typed, end_fine, end_wrong, is_address, place_of, value};
 use c_check_rules::{
     Constant, Outer, Scope, StructInfo, Type, binary_kind, choice_kind, choose, common,
-    fold_binary, fold_unary, inner_size, is_inner_sized, is_scalar, promoted,
+    fold_binary, fold_unary, inner_size, is_inner_sized, is_scalar, moves, promoted, shifts,
+    takes_away,
 };
-use mx_base::{IntKind, Place};
+use c_tree::{BinaryOp, UnaryOp};
+use mx_base::{Arithmetic, IntKind, Place};
 use std::alloc::Global;
 
 /// Ends a node by the type that an operator gives, or as a broken rule of types where it gives none.
@@ -34,7 +36,7 @@ fn end_sign(
     alloc: Global,
     notes: &mut Notes,
     place: Place,
-    op: u8,
+    op: UnaryOp,
     a: &Typed,
 ) -> Result<Typed, CheckFault>
     ensures { Ends (rule.sign_own op (outer_of a.now.kind) a.now.constant) place notes.old result notes.new }
@@ -56,8 +58,8 @@ fn not_constant(form: Outer, constant: Constant) -> Constant
     ensures { result ≡ rule.not_constant form constant }
 {
     match form {
-        Outer::Int(k) => fold_unary(2, k, constant),
-        Outer::Pointer => fold_unary(2, IntKind::U64, constant),
+        Outer::Int(k) => fold_unary(UnaryOp::Not, k, constant),
+        Outer::Pointer => fold_unary(UnaryOp::Not, IntKind::U64, constant),
         Outer::Void => Constant::No,
         Outer::Array(_) => Constant::No,
         Outer::Struct(_) => Constant::No,
@@ -123,36 +125,40 @@ fn end_address(
     end_fine(alloc, notes, place, value(kind, Constant::No))
 }
 
-/// Ends `-`, `~`, `!`, `*` or `&`, by its place in this list.
+/// Ends an operator on one operand.
 #[tactic(auto, unfolding(crate::specs::Rules::unary_own))]
 pub fn end_unary(
     alloc: Global,
     scope: &Scope,
     notes: &mut Notes,
     place: Place,
-    op: u8,
+    op: UnaryOp,
     a: Typed,
 ) -> Result<Typed, CheckFault>
     ensures { Ends (rule.unary_own scope.now.structs op a) place notes.old result notes.new }
 {
-    if op == 4 {
-        end_address(alloc, notes, place, &a)
-    } else if op == 3 {
-        end_target(alloc, scope, notes, place, &a)
-    } else if op == 2 {
-        end_not(alloc, notes, place, &a)
-    } else {
-        end_sign(alloc, notes, place, op, &a)
+    match op {
+        UnaryOp::Neg => end_sign(alloc, notes, place, op, &a),
+        UnaryOp::BitNot => end_sign(alloc, notes, place, op, &a),
+        UnaryOp::Not => end_not(alloc, notes, place, &a),
+        UnaryOp::Deref => end_target(alloc, scope, notes, place, &a),
+        UnaryOp::AddressOf => end_address(alloc, notes, place, &a),
     }
 }
 
-fn done_in(op: u8, k: IntKind, l: IntKind) -> IntKind
+fn done_in(op: BinaryOp, k: IntKind, l: IntKind) -> IntKind
     ensures { result ≡ rule.done_in op k l }
 {
-    if 4 < op && op < 7 {
-        promoted(k)
-    } else {
-        common(k, l)
+    match op {
+        BinaryOp::Arithmetic(op) => {
+            if shifts(op) {
+                promoted(k)
+            } else {
+                common(k, l)
+            }
+        }
+        BinaryOp::Comparison(_) => common(k, l),
+        BinaryOp::Logical(_) => common(k, l),
     }
 }
 
@@ -168,64 +174,65 @@ fn scaled(structs: &[StructInfo], pointer: &Type, by: Constant) -> Constant
     ensures { result ≡ rule.scaled structs.now pointer.now by }
 {
     let size = Constant::Value(target_size(structs, pointer));
-    fold_binary(0, IntKind::U64, by, size)
+    fold_binary(
+        BinaryOp::Arithmetic(Arithmetic::Mul),
+        IntKind::U64,
+        by,
+        size,
+    )
 }
 
-/// An operator of a pointer and an integer.
-fn moved_constant(
-    structs: &[StructInfo],
-    op: u8,
-    pointer: &Type,
-    p: Constant,
-    by: Constant,
-) -> Constant
-    ensures { result ≡ rule.moved_constant structs.now op pointer.now p by }
+/// What an operator of a pointer and an integer counts: `+` and `-` targets, and the others the integer as it is.
+fn counted(structs: &[StructInfo], op: BinaryOp, pointer: &Type, by: Constant) -> Constant
+    ensures { result ≡ rule.counted structs.now op pointer.now by }
 {
-    let by = if op == 3 || op == 4 {
-        scaled(structs, pointer, by)
-    } else {
-        by
-    };
-    fold_binary(op, IntKind::U64, p, by)
-}
-
-/// An operator of an integer and a pointer.
-fn added_constant(
-    structs: &[StructInfo],
-    op: u8,
-    pointer: &Type,
-    by: Constant,
-    p: Constant,
-) -> Constant
-    ensures { result ≡ rule.added_constant structs.now op pointer.now by p }
-{
-    let by = if op == 3 {
-        scaled(structs, pointer, by)
-    } else {
-        by
-    };
-    fold_binary(op, IntKind::U64, by, p)
-}
-
-/// An operator of two pointers.
-fn apart_constant(
-    structs: &[StructInfo],
-    op: u8,
-    pointer: &Type,
-    p: Constant,
-    q: Constant,
-) -> Constant
-    ensures { result ≡ rule.apart_constant structs.now op pointer.now p q }
-{
-    if op == 4 {
-        let size = Constant::Value(target_size(structs, pointer));
-        fold_binary(1, IntKind::I64, fold_binary(4, IntKind::I64, p, q), size)
-    } else {
-        fold_binary(op, IntKind::U64, p, q)
+    match op {
+        BinaryOp::Arithmetic(op) => {
+            if moves(op) {
+                scaled(structs, pointer, by)
+            } else {
+                by
+            }
+        }
+        BinaryOp::Comparison(_) => by,
+        BinaryOp::Logical(_) => by,
     }
 }
 
-fn binary_constant(structs: &[StructInfo], op: u8, a: &Typed, b: &Typed) -> Constant
+/// The signed difference of two addresses, divided by the size of what they point to.
+fn distance(structs: &[StructInfo], pointer: &Type, a: Constant, b: Constant) -> Constant
+    ensures { result ≡ rule.distance structs.now pointer.now a b }
+{
+    let size = Constant::Value(target_size(structs, pointer));
+    let apart = fold_binary(BinaryOp::Arithmetic(Arithmetic::Sub), IntKind::I64, a, b);
+    let over = BinaryOp::Arithmetic(Arithmetic::Div);
+    fold_binary(over, IntKind::I64, apart, size)
+}
+
+/// An operator of two addresses.
+fn apart_constant(
+    structs: &[StructInfo],
+    op: BinaryOp,
+    pointer: &Type,
+    a: Constant,
+    b: Constant,
+) -> Constant
+    ensures { result ≡ rule.apart_constant structs.now op pointer.now a b }
+{
+    match op {
+        BinaryOp::Arithmetic(f) => {
+            if takes_away(f) {
+                distance(structs, pointer, a, b)
+            } else {
+                fold_binary(op, IntKind::U64, a, b)
+            }
+        }
+        BinaryOp::Comparison(_) => fold_binary(op, IntKind::U64, a, b),
+        BinaryOp::Logical(_) => fold_binary(op, IntKind::U64, a, b),
+    }
+}
+
+fn binary_constant(structs: &[StructInfo], op: BinaryOp, a: &Typed, b: &Typed) -> Constant
     ensures { result ≡ rule.binary_constant structs.now op a.now b.now }
 {
     match (a.kind.outer(), b.kind.outer()) {
@@ -233,10 +240,12 @@ fn binary_constant(structs: &[StructInfo], op: u8, a: &Typed, b: &Typed) -> Cons
             fold_binary(op, done_in(op, k, l), a.constant, b.constant)
         }
         (Outer::Int(_), Outer::Pointer) => {
-            added_constant(structs, op, &b.kind, a.constant, b.constant)
+            let by = counted(structs, op, &b.kind, a.constant);
+            fold_binary(op, IntKind::U64, by, b.constant)
         }
         (Outer::Pointer, Outer::Int(_)) => {
-            moved_constant(structs, op, &a.kind, a.constant, b.constant)
+            let by = counted(structs, op, &a.kind, b.constant);
+            fold_binary(op, IntKind::U64, a.constant, by)
         }
         (Outer::Pointer, Outer::Pointer) => {
             apart_constant(structs, op, &a.kind, a.constant, b.constant)
@@ -245,14 +254,14 @@ fn binary_constant(structs: &[StructInfo], op: u8, a: &Typed, b: &Typed) -> Cons
     }
 }
 
-/// Ends an operator of two operands, by its place in the list that begins with `*`.
+/// Ends an operator of two operands.
 #[tactic(auto, unfolding(crate::specs::Rules::binary_own))]
 pub fn end_binary(
     alloc: Global,
     scope: &Scope,
     notes: &mut Notes,
     place: Place,
-    op: u8,
+    op: BinaryOp,
     a: Typed,
     b: Typed,
 ) -> Result<Typed, CheckFault>

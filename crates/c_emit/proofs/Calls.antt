@@ -9,25 +9,24 @@ use Rattle.mx_base.specs.declared.services.CService.{CService}
 use Rattle.mx_base.specs.declared.services.CService.TheVariants as in_c
 use Rattle.c_types.specs.Types.{CType, Void, Int, Pointer}
 use Rattle.c_tree.specs.declared.tree.Expr.{Expr}
+use Rattle.c_check_rules.specs.declared.predeclared.Builtin.{Builtin}
+use Rattle.c_check_rules.specs.declared.predeclared.Builtin.TheVariants as i
 use Rattle.c_check_rules.specs.declared.predeclared.Bind.{Bind}
 use Rattle.c_check_rules.specs.declared.predeclared.Bind.TheVariants.{Global, Local, Fun, Service, Builtin as BuiltinOf}
 use Rattle.fat_ir.specs.declared.step.FatStep.{FatStep}
 use Rattle.fat_ir.specs.declared.step.FatStep.TheVariants as s
-use Rattle.bounds_plan.specs.Core.{Arguments}
-use Rattle.bounds_plan.specs.Code.{labels, labels_ptr, labels_all, code, code_ptr, codes, arguments_at}
-use Rattle.bounds_plan.specs.ElaborateTypes.{Value, Numeric, Address, Sort, ANumber, APointer, AWhole, NoValue, sort_of, kind_of, given_as}
-use Rattle.bounds_plan.specs.ElaborateSource.{Reached, Around, Signature}
-use Rattle.bounds_plan.specs.ElaborateExpressions.{Found, no_place, expression, find_all, with_argument, arguments_for, called_as, function_called, called, nothing_found, number_of_argument, pointer_of_argument, symbol_of}
+use Rattle.bounds_plan.specs.meaning.Core.{Arguments}
+use Rattle.bounds_plan.specs.steps.Code.{labels, labels_ptr, labels_all, code, code_ptr, codes, arguments_at}
+use Rattle.bounds_plan.specs.elaboration.Types.{Value, Numeric, Address, Sort, ANumber, APointer, AWhole, NoValue, sort_of, kind_of, given_as}
+use Rattle.bounds_plan.specs.elaboration.Source.{Reached, Around, Signature}
+use Rattle.bounds_plan.specs.elaboration.Expressions.{Found, no_place, expression, find_all, with_argument, arguments_for, called_as, served, built_in, function_called, called, nothing_found, number_of_argument, pointer_of_argument, symbol_of}
 use Rattle.steps_facts.specs.declared.seen.Sorted.{Sorted}
 use Rattle.steps_facts.specs.Seen.{sorted, is_number}
 use Rattle.steps_facts.specs.Around.{sorts_of, parameters_of}
-use Rattle.steps_pieces.specs.declared.operators.Builtin.{Builtin}
-use Rattle.steps_pieces.specs.declared.operators.Builtin.TheVariants as i
-use Rattle.steps_pieces.specs.Operators.{service_at, builtin_at}
 use Rattle.steps_pieces.specs.Wanted.{code_value, labels_value, ending, given_number, code_given, labels_given}
 use Rattle.steps_pieces.specs.Own.{bounds_for, standing_of, place_of, takes, service_takes, builtin_takes, service_labels, call_labels, service_steps, builtin_steps, call_steps, call_own}
 use Rattle.steps_pieces.specs.Put.{Put, added, skipped, goes, went, went_given, went_all}
-use Rattle.c_look.proofs.Values.{service, service_is, builtin, builtin_is, given_is_number}
+use Rattle.c_look.proofs.Values.{given_is_number}
 use Rattle.c_emit.specs.Argued.{places_of}
 use Rattle.c_emit.proofs.Goes.{same_goes, went_as, both, zero_on, one_from, next}
 use Rattle.c_emit.proofs.Codes.{ended, ended_labels, given_code, given_labels}
@@ -103,8 +102,8 @@ call_types : Around → Bind → List CType
 call_types around (Global number) = []
 call_types around (Local number) = []
 call_types around (Fun number) = function_types (slice_get around.signatures number)
-call_types around (Service number) = service_types (service_at number)
-call_types around (BuiltinOf number) = builtin_types (builtin_at number)
+call_types around (Service service) = service_types service
+call_types around (BuiltinOf builtin) = builtin_types builtin
 
 some_or : {A : Type 0} → A → Option A → A
 some_or x None = x
@@ -145,8 +144,8 @@ unfolding call_types
 call_sorts around (Global number) ts h = none_is_none ts h
 call_sorts around (Local number) ts h = none_is_none ts h
 call_sorts around (Fun number) ts h = function_sorts (slice_get around.signatures number) ts h
-call_sorts around (Service number) ts h = some_same ts _ h ∙ service_sorts (service_at number)
-call_sorts around (BuiltinOf number) ts h = some_same ts _ h ∙ builtin_sorts (builtin_at number)
+call_sorts around (Service service) ts h = some_same ts _ h ∙ service_sorts service
+call_sorts around (BuiltinOf builtin) ts h = some_same ts _ h ∙ builtin_sorts builtin
 
 -- ---- services
 
@@ -170,7 +169,7 @@ pointer_labels (a ∷ more) = sym (zero_on _)
 behind : (ts : List CType) (all : List Found) (X : List FatStep) (d l : ℕ) → List FatStep
 behind ts all X d l = codes (arguments_for ts all) d l ++ X
 
-service_code : (c : CService) (all : List Found) (d l : ℕ) → code_value (service c all) d l ≡ behind (service_types c) all (service_steps c l d) d (l + service_labels c)
+service_code : (c : CService) (all : List Found) (d l : ℕ) → code_value (served c all) d l ≡ behind (service_types c) all (service_steps c l d) d (l + service_labels c)
 unfolding service_types behind
 service_code in_c.Print all d l = ap (λ (z : List FatStep). z ++ service_steps in_c.Print l d) (number_passed I64 all d l) ∙ ap (λ (m : ℕ). behind (Int I64 ∷ []) all (service_steps in_c.Print l d) d m) (sym (zero_on l))
 service_code in_c.Put all d l = ap (λ (z : List FatStep). z ++ service_steps in_c.Put l d) (number_passed I32 all d l) ∙ ap (λ (m : ℕ). behind (Int I32 ∷ []) all (service_steps in_c.Put l d) d m) (sym (zero_on l))
@@ -182,7 +181,7 @@ service_code in_c.Exit all d l = ap (λ (z : List FatStep). z ++ service_steps i
 zero_and : (n : ℕ) → n ≡ 0 + n
 zero_and n = omega arith
 
-service_labelled : (c : CService) (all : List Found) → labels_value (service c all) ≡ service_labels c + labels_all (arguments_for (service_types c) all)
+service_labelled : (c : CService) (all : List Found) → labels_value (served c all) ≡ service_labels c + labels_all (arguments_for (service_types c) all)
 unfolding service_types
 service_labelled in_c.Print all = number_labels I64 all ∙ zero_and _
 service_labelled in_c.Put all = number_labels I32 all ∙ zero_and _
@@ -239,7 +238,7 @@ after_three A B C X = ap (λ (z : List FatStep). A ++ z) (after_two B C X) ∙ s
 four_on : (d : ℕ) → d + 4 ≡ d + 2 + 2
 four_on d = omega arith
 
-builtin_code : (b : Builtin) (all : List Found) (d l : ℕ) → code_ptr (builtin b all) d l ≡ behind (builtin_types b) all (builtin_steps b d) d l
+builtin_code : (b : Builtin) (all : List Found) (d l : ℕ) → code_ptr (built_in b all) d l ≡ behind (builtin_types b) all (builtin_steps b d) d l
 unfolding builtin_types behind
 builtin_code i.SetBounds all d l = after_two _ _ (builtin_steps i.SetBounds d) ∙ ap (λ (z : List FatStep). z ++ builtin_steps i.SetBounds d) (sym (two_numbers U64 all d l))
 builtin_code i.NarrowBounds all d l = let A = code_ptr (pointer_of_argument 0 all) d l in let B = code_ptr (pointer_of_argument 1 all) (d + 2) (l + labels_ptr (pointer_of_argument 0 all)) in
@@ -257,7 +256,7 @@ last_of_two n m = omega arith
 last_of_three : (n m k : ℕ) → n + m + k ≡ n + (m + (k + 0))
 last_of_three n m k = omega arith
 
-builtin_labelled : (b : Builtin) (all : List Found) → labels_ptr (builtin b all) ≡ labels_all (arguments_for (builtin_types b) all)
+builtin_labelled : (b : Builtin) (all : List Found) → labels_ptr (built_in b all) ≡ labels_all (arguments_for (builtin_types b) all)
 unfolding builtin_types
 builtin_labelled i.SetBounds all = last_of_two (labels_ptr (pointer_of_argument 0 all)) (labels (number_of_argument U64 1 all)) ∙ sym (two_numbers_labels U64 all)
 builtin_labelled i.NarrowBounds all = last_of_three (labels_ptr (pointer_of_argument 0 all)) (labels_ptr (pointer_of_argument 1 all)) (labels (number_of_argument U64 2 all)) ∙ sym (three_labels U64 all)
@@ -299,17 +298,16 @@ unfolding call_types behind
 call_code around t (Global number) ts all d l h = none_is_none ts h
 call_code around t (Local number) ts all d l h = none_is_none ts h
 call_code around t (Fun number) ts all d l h = function_code (slice_get around.signatures number) ts around t number all d l h
-call_code around t (Service number) ts all d l h = ap (λ (x : Value). code_value x d l) (service_is number all) ∙ service_code (service_at number) all d l
-call_code around t (BuiltinOf number) ts all d l h = ap (λ x. code_ptr x d l) (builtin_is number all) ∙ builtin_code (builtin_at number) all d l
-    ∙ ap (λ (m : ℕ). behind (builtin_types (builtin_at number)) all (builtin_steps (builtin_at number) d) d m) (sym (zero_on l))
+call_code around t (Service service) ts all d l h = service_code service all d l
+call_code around t (BuiltinOf builtin) ts all d l h = builtin_code builtin all d l ∙ ap (λ (m : ℕ). behind (builtin_types builtin) all (builtin_steps builtin d) d m) (sym (zero_on l))
 
 call_labelled : (around : Around) (t : CType) (b : Bind) (ts : List Sorted) (all : List Found) → Some ts ≡ takes around b → labels_value (called around t b all) ≡ call_labels b + labels_all (arguments_for (call_types around b) all)
 unfolding call_types
 call_labelled around t (Global number) ts all h = none_is_none ts h
 call_labelled around t (Local number) ts all h = none_is_none ts h
 call_labelled around t (Fun number) ts all h = function_labels (slice_get around.signatures number) ts around t number all h
-call_labelled around t (Service number) ts all h = ap (λ (x : Value). labels_value x) (service_is number all) ∙ service_labelled (service_at number) all
-call_labelled around t (BuiltinOf number) ts all h = ap (λ x. labels_ptr x) (builtin_is number all) ∙ builtin_labelled (builtin_at number) all ∙ zero_and _
+call_labelled around t (Service service) ts all h = service_labelled service all
+call_labelled around t (BuiltinOf builtin) ts all h = builtin_labelled builtin all ∙ zero_and _
 
 pub call_form : (around : Around) (w : Bool) (t : CType) (b : Bind) (ts : List Sorted) (es : List Expr) (r : Reached) (p : Place) (q : Reached) (d : ℕ) (s : Put) → Some ts ≡ takes around b → let all = (find_all (map expression es) around r).all in
     went w (no_place t (called around t b all) p q) d s

@@ -8,12 +8,12 @@ use Rattle.mx_base.specs.declared.operators.Arithmetic.TheVariants.{Mul, Div, Re
 use Rattle.c_types.specs.Types.{CType, Void, Int, Pointer, Array, Struct}
 use Rattle.fat_ir.specs.declared.step.FatStep.{FatStep}
 use Rattle.fat_ir.specs.declared.step.FatStep.TheVariants as s
-use Rattle.bounds_plan.specs.Core.{NumberExpr, Convert}
-use Rattle.bounds_plan.specs.Code.{labels, labels_ptr, code, code_ptr}
-use Rattle.bounds_plan.specs.ElaborateTypes.{Value, Numeric, Address, Sort, ANumber, APointer, AWhole, NoValue, sort_of, kind_of, number_in, pointer_in, keeps, converted, right_operand, wanted_pointer, given_as}
-use Rattle.bounds_plan.specs.ElaboratePlaces.{Lvalue, NumberVariable, PointerVariable, InMemory, read_as}
-use Rattle.bounds_plan.specs.ElaborateSource.{Reached}
-use Rattle.bounds_plan.specs.ElaborateExpressions.{no_place, a_place}
+use Rattle.bounds_plan.specs.meaning.Core.{NumberExpr, Convert}
+use Rattle.bounds_plan.specs.steps.Code.{labels, labels_ptr, code, code_ptr}
+use Rattle.bounds_plan.specs.elaboration.Types.{Value, Numeric, Address, Sort, ANumber, APointer, AWhole, NoValue, sort_of, kind_of, number_in, pointer_in, keeps, converted, right_operand, wanted_pointer, given_as}
+use Rattle.bounds_plan.specs.elaboration.Places.{Lvalue, NumberVariable, PointerVariable, InMemory, read_as}
+use Rattle.bounds_plan.specs.elaboration.Source.{Reached}
+use Rattle.bounds_plan.specs.elaboration.Expressions.{no_place, a_place}
 use Rattle.steps_facts.specs.Seen.{sorted, kind_in, is_number, spot_of}
 use Rattle.steps_pieces.specs.Wanted.{code_value, labels_value, code_lvalue, labels_lvalue, code_wanted, labels_wanted, ending, addressing, extending, read_unless, reading, code_pointer, labels_pointer, code_given, labels_given}
 use Rattle.steps_pieces.specs.Own.{right_extending}

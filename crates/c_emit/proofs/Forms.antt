@@ -14,25 +14,25 @@ use Rattle.c_check_rules.specs.declared.predeclared.Bind.TheVariants.{Global, Lo
 use Rattle.fat_ir.specs.declared.step.FatStep.{FatStep}
 use Rattle.fat_ir.specs.declared.step.FatStep.TheVariants as s
 use Rattle.mx_base.specs.declared.numbers.IntKind.TheVariants.{I64}
-use Rattle.bounds_plan.specs.Core.{NumberExpr, Word, Operate, And, Or, PointerExpr, ChoosePtr, Function, Object}
-use Rattle.bounds_plan.specs.Code.{labels, labels_ptr, code, code_ptr}
-use Rattle.bounds_plan.specs.ElaborateTypes.{Value, Numeric, Address, Sort, ANumber, APointer, AWhole, NoValue, sort_of, kind_of, size_in, step_in, number_in, pointer_in, promoted, common, done_in, converted, right_operand, wanted_pointer, cast_as, cast_to}
-use Rattle.bounds_plan.specs.ElaboratePlaces.{Lvalue, NumberVariable, PointerVariable, InMemory, address_in, variable_of, variable_at, private_values_of}
-use Rattle.bounds_plan.specs.ElaborateSource.{Stand, Private, Frame, Reached, Around, literal_at}
-use Rattle.bounds_plan.specs.ElaborateExpressions.{Found, no_place, literal, named, symbol_of, negative, inverse, is_zero, minus_one, arithmetic, compared, calculated, chosen_as}
+use Rattle.bounds_plan.specs.meaning.Core.{NumberExpr, Word, Operate, And, Or, PointerExpr, ChoosePtr, Function, Object}
+use Rattle.bounds_plan.specs.steps.Code.{labels, labels_ptr, code, code_ptr}
+use Rattle.bounds_plan.specs.elaboration.Types.{Value, Numeric, Address, Sort, ANumber, APointer, AWhole, NoValue, sort_of, kind_of, size_in, step_in, number_in, pointer_in, promoted, common, done_in, converted, right_operand, wanted_pointer, cast_as, cast_to}
+use Rattle.bounds_plan.specs.elaboration.Places.{Lvalue, NumberVariable, PointerVariable, InMemory, address_in, variable_of, variable_at, private_values_of}
+use Rattle.bounds_plan.specs.elaboration.Source.{Stand, Private, Frame, Reached, Around, literal_at}
+use Rattle.bounds_plan.specs.elaboration.Expressions.{Found, no_place, literal, named, symbol_of, negative, inverse, is_zero, minus_one, arithmetic, compared, calculated, chosen_as, unary, binary}
 use Rattle.steps_facts.specs.declared.seen.Sorted.{Sorted}
 use Rattle.steps_facts.specs.declared.seen.Sorted.TheVariants as o
 use Rattle.steps_facts.specs.declared.seen.Spot.TheVariants as sp
 use Rattle.steps_facts.specs.Seen.{sorted, kind_in, facts_of, is_number, spot_of, seen_in}
-use Rattle.steps_pieces.specs.declared.operators.Joint.{Joint}
-use Rattle.steps_pieces.specs.declared.operators.Joint.TheVariants as j
-use Rattle.steps_pieces.specs.declared.operators.Single.{Single}
-use Rattle.steps_pieces.specs.declared.operators.Single.TheVariants as u
+use Rattle.c_tree.specs.declared.operators.UnaryOp.{UnaryOp}
+use Rattle.c_tree.specs.declared.operators.UnaryOp.TheVariants as u
+use Rattle.c_tree.specs.declared.operators.Logical.TheVariants as logic
+use Rattle.c_tree.specs.declared.operators.BinaryOp.{BinaryOp}
+use Rattle.c_tree.specs.declared.operators.BinaryOp.TheVariants as j
 use Rattle.steps_pieces.specs.Operators.{takes_place, joint_labels, second_at}
 use Rattle.steps_pieces.specs.Wanted.{code_value, labels_value, code_lvalue, labels_lvalue, code_wanted, labels_wanted, ending, addressing, extending, read_unless, code_pointer, labels_pointer, code_given, labels_given, null_at}
 use Rattle.steps_pieces.specs.Own.{word_own, text_own, name_steps, name_own, hidden, with_word, single_steps, single_own, cast_steps, cast_own, right_extending, if_numbers, calculating, comparing, between, behind, joint_between, joint_behind, choice_of, crossing, choice_end, converting}
 use Rattle.steps_pieces.specs.Put.{Put, added, skipped, went, went_given}
-use Rattle.c_look.proofs.Values.{single, joined}
 use Rattle.c_emit.proofs.Goes.{went_as, given_as, zero_on, own, one, two_from, three_from}
 use Rattle.c_emit.proofs.Codes.{kind_by, ended, ended_labels, read, read_labels, number_code, number_labels, address_code, address_labels, converted_code, converted_labels, right_code, right_labels, number_given, number_given_labels, pointer_code, pointer_labels}
 
@@ -93,15 +93,15 @@ named_code w around t (Global number) q r d l = read w t (InMemory (Object (slic
 named_code w around t (Local number) q r d l = let lv = variable_of around.structs around.variables around.stands 0 number in
     read w t lv q r d l ∙ ap (λ (c : List FatStep). c ++ read_unless w (spot_of lv) (sorted (sort_of t)) q d) (variable_code around.structs around.variables around.stands 0 number d l)
 named_code w around t (Fun number) q r d l = ended w t (Address (Function (symbol_of around number))) q r d l
-named_code w around t (Service number) q r d l = ended w t (Numeric (Word 0)) q r d l
-named_code w around t (Builtin number) q r d l = ended w t (Numeric (Word 0)) q r d l
+named_code w around t (Service service) q r d l = ended w t (Numeric (Word 0)) q r d l
+named_code w around t (Builtin builtin) q r d l = ended w t (Numeric (Word 0)) q r d l
 
 named_labels : (w : Bool) (around : Around) (t : CType) (b : Bind) (q : Place) (r : Reached) → labels_wanted w (named around t b q r) ≡ 0
 named_labels w around t (Global number) q r = read_labels w t (InMemory (Object (slice_index_or around.layout.globals number 0) 0 (size_in around.structs t))) q r
 named_labels w around t (Local number) q r = read_labels w t (variable_of around.structs around.variables around.stands 0 number) q r ∙ variable_labels around.structs around.variables around.stands 0 number
 named_labels w around t (Fun number) q r = ended_labels w t (Address (Function (symbol_of around number))) q r
-named_labels w around t (Service number) q r = ended_labels w t (Numeric (Word 0)) q r
-named_labels w around t (Builtin number) q r = ended_labels w t (Numeric (Word 0)) q r
+named_labels w around t (Service service) q r = ended_labels w t (Numeric (Word 0)) q r
+named_labels w around t (Builtin builtin) q r = ended_labels w t (Numeric (Word 0)) q r
 
 pub name_form : (w : Bool) (around : Around) (t : CType) (b : Bind) (q : Place) (r : Reached) (d : ℕ) (s : Put) → went w (named around t b q r) d s ≡ added (name_own around b (facts_of around.structs t) w q d) s
 unfolding went name_own
@@ -128,36 +128,36 @@ address_of_labels (NumberVariable x) = refl
 address_of_labels (PointerVariable x) = refl
 address_of_labels (InMemory q) = refl
 
-single_code : (structs : List StructType) (op : Single) (w : Bool) (t : CType) (a : Found) (p : Place) (r : Reached) (d l : ℕ)
-    → code_wanted w (single op t a p r) d l ≡ code_wanted (takes_place op) a d l ++ single_steps op (seen_in structs a) (sorted (sort_of t)) w p d
-single_code structs u.Negative w t a p r d l = ended w t (Numeric (negative a)) p r d l
+single_code : (structs : List StructType) (op : UnaryOp) (w : Bool) (t : CType) (a : Found) (p : Place) (r : Reached) (d l : ℕ)
+    → code_wanted w (unary op t a p r) d l ≡ code_wanted (takes_place op) a d l ++ single_steps op (seen_in structs a) (sorted (sort_of t)) w p d
+single_code structs u.Neg w t a p r d l = ended w t (Numeric (negative a)) p r d l
     ∙ ap (λ (c : List FatStep). c ++ ending w true d) (word_code Mul (kind_of a.type) a.value minus_one d l)
     ∙ append_assoc (code_value a.value d l) _ _
     ∙ ap (λ (k : IntKind). code_value a.value d l ++ (with_word Mul k minus_one d ++ ending w true d)) (kind_by a.type)
-single_code structs u.Inverse w t a p r d l = ended w t (Numeric (inverse a)) p r d l
+single_code structs u.BitNot w t a p r d l = ended w t (Numeric (inverse a)) p r d l
     ∙ ap (λ (c : List FatStep). c ++ ending w true d) (word_code BitXor (kind_of a.type) a.value minus_one d l)
     ∙ append_assoc (code_value a.value d l) _ _
     ∙ ap (λ (k : IntKind). code_value a.value d l ++ (with_word BitXor k minus_one d ++ ending w true d)) (kind_by a.type)
-single_code structs u.IsZero w t a p r d l = ended w t (Numeric (is_zero a)) p r d l
+single_code structs u.Not w t a p r d l = ended w t (Numeric (is_zero a)) p r d l
     ∙ ap (λ (c : List FatStep). (c ++ (s.Const (d + 2) 0 ∷ s.Compare d Equal (kind_of a.type) d (d + 2) ∷ [])) ++ ending w true d) (number_code a.value d l)
     ∙ append_assoc (code_value a.value d l) _ _
     ∙ ap (λ (k : IntKind). code_value a.value d l ++ ((s.Const (d + 2) 0 ∷ s.Compare d Equal k d (d + 2) ∷ []) ++ ending w true d)) (kind_by a.type)
-single_code structs u.Pointed w t a p r d l = read w t (InMemory (pointer_in a.value)) p r d l
+single_code structs u.Deref w t a p r d l = read w t (InMemory (pointer_in a.value)) p r d l
     ∙ ap (λ (c : List FatStep). c ++ read_unless w sp.Memory (sorted (sort_of t)) p d) (address_code a.value d l)
     ∙ append_assoc (code_value a.value d l) (addressing (is_number a.value) d) _
 single_code structs u.AddressOf w t a p r d l = pointer_ended w t (address_in a.lvalue) p r d l ∙ address_of a.lvalue d l
 
-single_labels : (op : Single) (w : Bool) (t : CType) (a : Found) (p : Place) (r : Reached) → labels_wanted w (single op t a p r) ≡ labels_wanted (takes_place op) a
-single_labels u.Negative w t a p r = ended_labels w t (Numeric (negative a)) p r ∙ ap (λ (n : ℕ). n + 0) (number_given_labels (kind_of a.type) (promoted (kind_of a.type)) a.value) ∙ zero_on (labels_value a.value)
-single_labels u.Inverse w t a p r = ended_labels w t (Numeric (inverse a)) p r ∙ ap (λ (n : ℕ). n + 0) (number_given_labels (kind_of a.type) (promoted (kind_of a.type)) a.value) ∙ zero_on (labels_value a.value)
-single_labels u.IsZero w t a p r = ended_labels w t (Numeric (is_zero a)) p r ∙ ap (λ (n : ℕ). n + 0) (number_labels a.value) ∙ zero_on (labels_value a.value)
-single_labels u.Pointed w t a p r = read_labels w t (InMemory (pointer_in a.value)) p r ∙ address_labels a.value
+single_labels : (op : UnaryOp) (w : Bool) (t : CType) (a : Found) (p : Place) (r : Reached) → labels_wanted w (unary op t a p r) ≡ labels_wanted (takes_place op) a
+single_labels u.Neg w t a p r = ended_labels w t (Numeric (negative a)) p r ∙ ap (λ (n : ℕ). n + 0) (number_given_labels (kind_of a.type) (promoted (kind_of a.type)) a.value) ∙ zero_on (labels_value a.value)
+single_labels u.BitNot w t a p r = ended_labels w t (Numeric (inverse a)) p r ∙ ap (λ (n : ℕ). n + 0) (number_given_labels (kind_of a.type) (promoted (kind_of a.type)) a.value) ∙ zero_on (labels_value a.value)
+single_labels u.Not w t a p r = ended_labels w t (Numeric (is_zero a)) p r ∙ ap (λ (n : ℕ). n + 0) (number_labels a.value) ∙ zero_on (labels_value a.value)
+single_labels u.Deref w t a p r = read_labels w t (InMemory (pointer_in a.value)) p r ∙ address_labels a.value
 single_labels u.AddressOf w t a p r = ended_labels w t (Address (address_in a.lvalue)) p r ∙ address_of_labels a.lvalue
 
-pub single_form : (structs : List StructType) (op : Single) (w : Bool) (t : CType) (a : Found) (p : Place) (r : Reached) (d : ℕ) (s : Put)
-    → went w (single op t a p r) d s ≡ added (single_own op (seen_in structs a) (sorted (sort_of t)) w p d) (went (takes_place op) a d s)
+pub single_form : (structs : List StructType) (op : UnaryOp) (w : Bool) (t : CType) (a : Found) (p : Place) (r : Reached) (d : ℕ) (s : Put)
+    → went w (unary op t a p r) d s ≡ added (single_own op (seen_in structs a) (sorted (sort_of t)) w p d) (went (takes_place op) a d s)
 unfolding went single_own
-single_form structs op w t a p r d s = went_as w (single op t a p r) d (λ l. code_wanted (takes_place op) a d l ++ single_steps op (seen_in structs a) (sorted (sort_of t)) w p d) (labels_wanted (takes_place op) a) s
+single_form structs op w t a p r d s = went_as w (unary op t a p r) d (λ l. code_wanted (takes_place op) a d l ++ single_steps op (seen_in structs a) (sorted (sort_of t)) w p d) (labels_wanted (takes_place op) a) s
     (single_code structs op w t a p r d s.label) (single_labels op w t a p r)
     ∙ one (λ l. code_wanted (takes_place op) a d l) (labels_wanted (takes_place op) a) _ s
 
@@ -262,46 +262,46 @@ or_labels (Address p) (Address q) = refl
 plain : (x y : Value) (X Y : List FatStep) (d m : ℕ) → List FatStep
 plain x y X Y d m = code_value x d m ++ (X ++ (code_value y (d + 2) (m + labels_value x) ++ Y))
 
-joined_code : (joint : Joint) (around : Around) (a b : Found) (d l : ℕ)
-    → code_value (joined joint around a b) d l ≡ code_value a.value d (l + joint_labels joint) ++ (between joint (seen_in around.structs a) (seen_in around.structs b) l d
+binary_code : (joint : BinaryOp) (around : Around) (a b : Found) (d l : ℕ)
+    → code_value (binary joint around a b) d l ≡ code_value a.value d (l + joint_labels joint) ++ (between joint (seen_in around.structs a) (seen_in around.structs b) l d
     ++ (code_value b.value (second_at joint d) (l + joint_labels joint + labels_value a.value) ++ behind joint (seen_in around.structs a) (seen_in around.structs b) l d))
 unfolding plain
-joined_code (j.Calculation op) around a b d l = let x = seen_in around.structs a in let y = seen_in around.structs b in
+binary_code (j.Arithmetic op) around a b d l = let x = seen_in around.structs a in let y = seen_in around.structs b in
     arithmetic_code around.structs op a.type b.type a.value b.value d l
     ∙ ap (λ (k : IntKind). plain a.value b.value (if_numbers x.number y.number (extending k (done_in op k (kind_of b.type)) d)) (calculating x.number y.number op k (kind_of b.type) x.facts.step y.facts.step d) d l) (kind_by a.type)
     ∙ ap (λ (k : IntKind). plain a.value b.value (if_numbers x.number y.number (extending (kind_in x.facts.sort) (done_in op (kind_in x.facts.sort) k) d)) (calculating x.number y.number op (kind_in x.facts.sort) k x.facts.step y.facts.step d) d l) (kind_by b.type)
-    ∙ ap (λ (m : ℕ). plain a.value b.value (between (j.Calculation op) x y l d) (behind (j.Calculation op) x y l d) d m) (sym (zero_on l))
-joined_code (j.Comparison op) around a b d l = let x = seen_in around.structs a in let y = seen_in around.structs b in
+    ∙ ap (λ (m : ℕ). plain a.value b.value (between (j.Arithmetic op) x y l d) (behind (j.Arithmetic op) x y l d) d m) (sym (zero_on l))
+binary_code (j.Comparison op) around a b d l = let x = seen_in around.structs a in let y = seen_in around.structs b in
     compared_code op (kind_of a.type) (kind_of b.type) a.value b.value d l
     ∙ ap (λ (k : IntKind). plain a.value b.value (if_numbers x.number y.number (extending k (common k (kind_of b.type)) d)) (comparing x.number y.number op k (kind_of b.type) d) d l) (kind_by a.type)
     ∙ ap (λ (k : IntKind). plain a.value b.value (if_numbers x.number y.number (extending (kind_in x.facts.sort) (common (kind_in x.facts.sort) k) d)) (comparing x.number y.number op (kind_in x.facts.sort) k d) d l) (kind_by b.type)
     ∙ ap (λ (m : ℕ). plain a.value b.value (between (j.Comparison op) x y l d) (behind (j.Comparison op) x y l d) d m) (sym (zero_on l))
-joined_code j.And around a b d l = and_code a.value b.value d l
-joined_code j.Or around a b d l = or_code a.value b.value d l
+binary_code (j.Logical logic.And) around a b d l = and_code a.value b.value d l
+binary_code (j.Logical logic.Or) around a b d l = or_code a.value b.value d l
 
 plus_zero : (n m : ℕ) → n + m ≡ 0 + n + m
 plus_zero n m = omega arith
 
-joined_labels : (joint : Joint) (around : Around) (a b : Found) → labels_value (joined joint around a b) ≡ joint_labels joint + labels_value a.value + labels_value b.value
-joined_labels (j.Calculation op) around a b = arithmetic_labels around.structs op a.type b.type a.value b.value ∙ plus_zero (labels_value a.value) (labels_value b.value)
-joined_labels (j.Comparison op) around a b = compared_labels op (kind_of a.type) (kind_of b.type) a.value b.value ∙ plus_zero (labels_value a.value) (labels_value b.value)
-joined_labels j.And around a b = and_labels a.value b.value
-joined_labels j.Or around a b = or_labels a.value b.value
+binary_labels : (joint : BinaryOp) (around : Around) (a b : Found) → labels_value (binary joint around a b) ≡ joint_labels joint + labels_value a.value + labels_value b.value
+binary_labels (j.Arithmetic op) around a b = arithmetic_labels around.structs op a.type b.type a.value b.value ∙ plus_zero (labels_value a.value) (labels_value b.value)
+binary_labels (j.Comparison op) around a b = compared_labels op (kind_of a.type) (kind_of b.type) a.value b.value ∙ plus_zero (labels_value a.value) (labels_value b.value)
+binary_labels (j.Logical logic.And) around a b = and_labels a.value b.value
+binary_labels (j.Logical logic.Or) around a b = or_labels a.value b.value
 
 regroup : (A X B Y E : List FatStep) → (A ++ (X ++ (B ++ Y))) ++ E ≡ A ++ (X ++ (B ++ (Y ++ E)))
 regroup A X B Y E = simp append_assoc refl
 
-pub joint_form : (joint : Joint) (around : Around) (w : Bool) (t : CType) (a b : Found) (p : Place) (r : Reached) (d : ℕ) (s : Put) → let x = seen_in around.structs a in let y = seen_in around.structs b in
-    went w (no_place t (joined joint around a b) p r) d s
-    ≡ added (joint_behind joint x y s.label w (is_number (joined joint around a b)) d) (went false b (second_at joint d) (added (joint_between joint x y s.label d) (went false a d (skipped (joint_labels joint) s))))
+pub joint_form : (joint : BinaryOp) (around : Around) (w : Bool) (t : CType) (a b : Found) (p : Place) (r : Reached) (d : ℕ) (s : Put) → let x = seen_in around.structs a in let y = seen_in around.structs b in
+    went w (no_place t (binary joint around a b) p r) d s
+    ≡ added (joint_behind joint x y s.label w (is_number (binary joint around a b)) d) (went false b (second_at joint d) (added (joint_between joint x y s.label d) (went false a d (skipped (joint_labels joint) s))))
 unfolding went joint_between joint_behind
 joint_form joint around w t a b p r d s = let x = seen_in around.structs a in let y = seen_in around.structs b in let k = joint_labels joint in
     let X = between joint x y s.label d in
     let Y = behind joint x y s.label d in
-    let E = ending w (is_number (joined joint around a b)) d in
-    went_as w (no_place t (joined joint around a b) p r) d (λ l. code_value a.value d (l + k) ++ (X ++ (code_value b.value (second_at joint d) (l + k + labels_value a.value) ++ (Y ++ E)))) (k + labels_value a.value + labels_value b.value) s
-    (ended w t (joined joint around a b) p r d s.label ∙ ap (λ (c : List FatStep). c ++ E) (joined_code joint around a b d s.label) ∙ regroup _ X _ Y E)
-    (ended_labels w t (joined joint around a b) p r ∙ joined_labels joint around a b)
+    let E = ending w (is_number (binary joint around a b)) d in
+    went_as w (no_place t (binary joint around a b) p r) d (λ l. code_value a.value d (l + k) ++ (X ++ (code_value b.value (second_at joint d) (l + k + labels_value a.value) ++ (Y ++ E)))) (k + labels_value a.value + labels_value b.value) s
+    (ended w t (binary joint around a b) p r d s.label ∙ ap (λ (c : List FatStep). c ++ E) (binary_code joint around a b d s.label) ∙ regroup _ X _ Y E)
+    (ended_labels w t (binary joint around a b) p r ∙ binary_labels joint around a b)
     ∙ two_from k (λ l. code_value a.value d l) (λ l. code_value b.value (second_at joint d) l) (labels_value a.value) (labels_value b.value) X (Y ++ E) s
 
 -- ---- `?:`

@@ -2,8 +2,8 @@
 use Rattle.std.proofs.Common.{◌≡◌, ℕ, ◌+◌, Bool, List, ◌++◌, refl, sym, ap, ◌∙◌, arith}
 use Rattle.std.proofs.lemmas.List.{append_assoc}
 use Rattle.fat_ir.specs.declared.step.FatStep.{FatStep}
-use Rattle.bounds_plan.specs.ElaborateTypes.{kind_of}
-use Rattle.bounds_plan.specs.ElaborateExpressions.{Found}
+use Rattle.bounds_plan.specs.elaboration.Types.{kind_of}
+use Rattle.bounds_plan.specs.elaboration.Expressions.{Found}
 use Rattle.steps_facts.specs.declared.seen.Sorted.{Sorted}
 use Rattle.steps_pieces.specs.Wanted.{code_wanted, labels_wanted, code_given, labels_given}
 use Rattle.steps_pieces.specs.Put.{Put, added, skipped, goes, went, went_given}

@@ -13,12 +13,12 @@ use Rattle.narrowing.specs.Member.{member_rule}
 use Rattle.c_types.specs.Types.{CType}
 use Rattle.fat_ir.specs.declared.step.FatStep.{FatStep}
 use Rattle.fat_ir.specs.declared.step.FatStep.TheVariants as s
-use Rattle.bounds_plan.specs.Core.{NumberExpr, Word, PointerExpr}
-use Rattle.bounds_plan.specs.Code.{labels_ptr, code, code_ptr, scaled, ruled, offset_by, before_or_after}
-use Rattle.bounds_plan.specs.ElaborateTypes.{Value, Numeric, Sort, ANumber, APointer, AWhole, NoValue, sort_of, is_array, kind_of, target_of, size_in, step_in, number_in, pointer_in, given, given_as, done_in}
-use Rattle.bounds_plan.specs.ElaboratePlaces.{Lvalue, NumberVariable, PointerVariable, InMemory, written_as, changed_as, element_at, under_rule, struct_of, offset_in}
-use Rattle.bounds_plan.specs.ElaborateSource.{Reached, Around}
-use Rattle.bounds_plan.specs.ElaborateExpressions.{Found, a_place, assigned, assign_by, changed, compound_at, stepped_by, index_rule, index, member_named, member, arrow}
+use Rattle.bounds_plan.specs.meaning.Core.{NumberExpr, Word, PointerExpr}
+use Rattle.bounds_plan.specs.steps.Code.{labels_ptr, code, code_ptr, scaled, ruled, offset_by, before_or_after}
+use Rattle.bounds_plan.specs.elaboration.Types.{Value, Numeric, Sort, ANumber, APointer, AWhole, NoValue, sort_of, is_array, kind_of, target_of, size_in, step_in, number_in, pointer_in, given, given_as, done_in}
+use Rattle.bounds_plan.specs.elaboration.Places.{Lvalue, NumberVariable, PointerVariable, InMemory, written_as, changed_as, element_at, under_rule, struct_of, offset_in}
+use Rattle.bounds_plan.specs.elaboration.Source.{Reached, Around}
+use Rattle.bounds_plan.specs.elaboration.Expressions.{Found, a_place, assigned, assign_by, changed, stepped_by, index_rule, index, member_named, member, arrow}
 use Rattle.steps_facts.specs.declared.seen.Sorted.{Sorted}
 use Rattle.steps_facts.specs.declared.seen.Sorted.TheVariants as o
 use Rattle.steps_facts.specs.declared.seen.Spot.{Spot}
@@ -30,7 +30,6 @@ use Rattle.steps_pieces.specs.Wanted.{code_value, labels_value, code_lvalue, lab
 use Rattle.steps_pieces.specs.Own.{is_copied, value_at, assigned_sort, storing, changing, changing_number, number_read, number_written, right_extending, assigned_steps, assigned_own, one_for, stepped_own, part_ruled, element_own, member_own}
 use Rattle.steps_pieces.specs.Put.{Put, added, went, went_given}
 use Rattle.c_look.proofs.Values.{written_number, changed_number, given_is_number}
-use Rattle.c_emit.specs.Assigned.{operator_for}
 use Rattle.c_emit.proofs.Goes.{went_as, zero_on, one, pair, two}
 use Rattle.c_emit.proofs.Codes.{kind_by, ended, ended_labels, read, read_labels, number_code, number_labels, address_code, address_labels, number_right, number_right_labels, number_given, number_given_labels, pointer_code, pointer_labels, given_code, given_labels}
 
@@ -128,48 +127,48 @@ changed_copied_labels kind NoValue (InMemory p) q op from size e old h = refl
 -- ---- assignments
 
 -- what is evaluated and then done to the place a
-abbrev pub assigned_value : Option ℕ → Around → Found → Found → Value
+abbrev pub assigned_value : Option Arithmetic → Around → Found → Found → Value
 assigned_value None around a b = assigned a b
-assigned_value (Some op) around a b = changed around.structs (compound_at op) a (kind_of b.type) (number_in b.value) false
+assigned_value (Some op) around a b = changed around.structs op a (kind_of b.type) (number_in b.value) false
 
-assigned_ended : (op : Option ℕ) (w : Bool) (around : Around) (a b : Found) (q : Place) (r : Reached) (d l : ℕ)
+assigned_ended : (op : Option Arithmetic) (w : Bool) (around : Around) (a b : Found) (q : Place) (r : Reached) (d l : ℕ)
     → code_wanted w (assign_by op around a b q r) d l ≡ code_value (assigned_value op around a b) d l ++ ending w (is_number (assigned_value op around a b)) d
 assigned_ended None true around a b q r d l = ended true a.type (assigned a b) q r d l
 assigned_ended None false around a b q r d l = ended false a.type (assigned a b) q r d l
 assigned_ended (Some op) w around a b q r d l = ended w a.type (assigned_value (Some op) around a b) q r d l
 
-assigned_ended_labels : (op : Option ℕ) (w : Bool) (around : Around) (a b : Found) (q : Place) (r : Reached) → labels_wanted w (assign_by op around a b q r) ≡ labels_value (assigned_value op around a b)
+assigned_ended_labels : (op : Option Arithmetic) (w : Bool) (around : Around) (a b : Found) (q : Place) (r : Reached) → labels_wanted w (assign_by op around a b q r) ≡ labels_value (assigned_value op around a b)
 assigned_ended_labels None true around a b q r = ended_labels true a.type (assigned a b) q r
 assigned_ended_labels None false around a b q r = ended_labels false a.type (assigned a b) q r
 assigned_ended_labels (Some op) w around a b q r = ended_labels w a.type (assigned_value (Some op) around a b) q r
 
-assigned_number : (op : Option ℕ) (around : Around) (a b : Found) → is_number (assigned_value op around a b) ≡ reads_number (spot_of a.lvalue) (sorted (sort_of a.type))
+assigned_number : (op : Option Arithmetic) (around : Around) (a b : Found) → is_number (assigned_value op around a b) ≡ reads_number (spot_of a.lvalue) (sorted (sort_of a.type))
 assigned_number None around a b = written_number (sort_of a.type) a.lvalue a.place (given a.type b.type b.value)
-assigned_number (Some op) around a b = changed_number (kind_of a.type) (sort_of a.type) a.lvalue a.place (compound_at op) (kind_of b.type) (step_in around.structs a.type) (number_in b.value) false
+assigned_number (Some op) around a b = changed_number (kind_of a.type) (sort_of a.type) a.lvalue a.place op (kind_of b.type) (step_in around.structs a.type) (number_in b.value) false
 
-assigned_code : (op : Option ℕ) (around : Around) (a b : Found) (d l : ℕ) → is_copied (spot_of a.lvalue) (sorted (sort_of a.type)) ≡ false
+assigned_code : (op : Option Arithmetic) (around : Around) (a b : Found) (d l : ℕ) → is_copied (spot_of a.lvalue) (sorted (sort_of a.type)) ≡ false
     → code_value (assigned_value op around a b) d l ≡ code_lvalue a.lvalue d l ++ (code_given (assigned_sort op (sorted (sort_of a.type))) (kind_of b.type) b.value (value_at (spot_of a.lvalue) d) (l + labels_lvalue a.lvalue)
-    ++ assigned_steps (operator_for op) (seen_in around.structs a) (seen_in around.structs b) d)
+    ++ assigned_steps op (seen_in around.structs a) (seen_in around.structs b) d)
 assigned_code None around a b d l h = written_code (sort_of a.type) a.lvalue a.place b.type b.value d l h
 assigned_code (Some op) around a b d l h =
-    changed_code (kind_of a.type) (sort_of a.type) a.lvalue a.place (compound_at op) (kind_of b.type) (step_in around.structs a.type) b.value false d l h (kind_by a.type)
+    changed_code (kind_of a.type) (sort_of a.type) a.lvalue a.place op (kind_of b.type) (step_in around.structs a.type) b.value false d l h (kind_by a.type)
     ∙ ap (λ (k : IntKind). code_lvalue a.lvalue d l ++ (code_value b.value (value_at (spot_of a.lvalue) d) (l + labels_lvalue a.lvalue)
-    ++ changing (spot_of a.lvalue) (sorted (sort_of a.type)) a.place (compound_at op) k (step_in around.structs a.type) false d)) (kind_by b.type)
+    ++ changing (spot_of a.lvalue) (sorted (sort_of a.type)) a.place op k (step_in around.structs a.type) false d)) (kind_by b.type)
 
-assigned_labels : (op : Option ℕ) (around : Around) (a b : Found) → is_copied (spot_of a.lvalue) (sorted (sort_of a.type)) ≡ false
+assigned_labels : (op : Option Arithmetic) (around : Around) (a b : Found) → is_copied (spot_of a.lvalue) (sorted (sort_of a.type)) ≡ false
     → labels_value (assigned_value op around a b) ≡ labels_lvalue a.lvalue + labels_given (assigned_sort op (sorted (sort_of a.type))) b.value
 assigned_labels None around a b h = written_labels (sort_of a.type) a.lvalue a.place b.type b.value h
-assigned_labels (Some op) around a b h = changed_labels (kind_of a.type) (sort_of a.type) a.lvalue a.place (compound_at op) (kind_of b.type) (step_in around.structs a.type) b.value false h
+assigned_labels (Some op) around a b h = changed_labels (kind_of a.type) (sort_of a.type) a.lvalue a.place op (kind_of b.type) (step_in around.structs a.type) b.value false h
 
 regroup : (A B Y E : List FatStep) → (A ++ (B ++ Y)) ++ E ≡ A ++ (B ++ (Y ++ E))
 regroup A B Y E = simp append_assoc refl
 
-pub assign_form : (op : Option ℕ) (w : Bool) (around : Around) (a b : Found) (q : Place) (r : Reached) (d : ℕ) (s : Put) → is_copied (spot_of a.lvalue) (sorted (sort_of a.type)) ≡ false
+pub assign_form : (op : Option Arithmetic) (w : Bool) (around : Around) (a b : Found) (q : Place) (r : Reached) (d : ℕ) (s : Put) → is_copied (spot_of a.lvalue) (sorted (sort_of a.type)) ≡ false
     → went w (assign_by op around a b q r) d s
-    ≡ added (assigned_own (operator_for op) (seen_in around.structs a) (seen_in around.structs b) w d) (went_given (assigned_sort op (sorted (sort_of a.type))) b (value_at (spot_of a.lvalue) d) (went true a d s))
+    ≡ added (assigned_own op (seen_in around.structs a) (seen_in around.structs b) w d) (went_given (assigned_sort op (sorted (sort_of a.type))) b (value_at (spot_of a.lvalue) d) (went true a d s))
 unfolding went went_given assigned_own
 assign_form op w around a b q r d s h = let v = value_at (spot_of a.lvalue) d in let k = assigned_sort op (sorted (sort_of a.type)) in
-    let Y = assigned_steps (operator_for op) (seen_in around.structs a) (seen_in around.structs b) d in
+    let Y = assigned_steps op (seen_in around.structs a) (seen_in around.structs b) d in
     let E = ending w (reads_number (spot_of a.lvalue) (sorted (sort_of a.type))) d in
     went_as w (assign_by op around a b q r) d (λ l. code_lvalue a.lvalue d l ++ (code_given k (kind_of b.type) b.value v (l + labels_lvalue a.lvalue) ++ (Y ++ E))) (labels_lvalue a.lvalue + labels_given k b.value) s
     (assigned_ended op w around a b q r d s.label
@@ -178,13 +177,13 @@ assign_form op w around a b q r d s h = let v = value_at (spot_of a.lvalue) d in
     (assigned_ended_labels op w around a b q r ∙ assigned_labels op around a b h)
     ∙ pair (λ l. code_lvalue a.lvalue d l) (λ l. code_given k (kind_of b.type) b.value v l) (labels_lvalue a.lvalue) (labels_given k b.value) (Y ++ E) s
 
-copied_code : (op : Option ℕ) (around : Around) (a b : Found) (d l : ℕ) → is_copied (spot_of a.lvalue) (sorted (sort_of a.type)) ≡ true → code_value (assigned_value op around a b) d l ≡ code_lvalue a.lvalue d l
+copied_code : (op : Option Arithmetic) (around : Around) (a b : Found) (d l : ℕ) → is_copied (spot_of a.lvalue) (sorted (sort_of a.type)) ≡ true → code_value (assigned_value op around a b) d l ≡ code_lvalue a.lvalue d l
 copied_code None around a b d l h = written_copied (sort_of a.type) a.lvalue a.place (given a.type b.type b.value) d l h
-copied_code (Some op) around a b d l h = changed_copied (kind_of a.type) (sort_of a.type) a.lvalue a.place (compound_at op) (kind_of b.type) (step_in around.structs a.type) (number_in b.value) false d l h
+copied_code (Some op) around a b d l h = changed_copied (kind_of a.type) (sort_of a.type) a.lvalue a.place op (kind_of b.type) (step_in around.structs a.type) (number_in b.value) false d l h
 
-copied_labels : (op : Option ℕ) (around : Around) (a b : Found) → is_copied (spot_of a.lvalue) (sorted (sort_of a.type)) ≡ true → labels_value (assigned_value op around a b) ≡ labels_lvalue a.lvalue
+copied_labels : (op : Option Arithmetic) (around : Around) (a b : Found) → is_copied (spot_of a.lvalue) (sorted (sort_of a.type)) ≡ true → labels_value (assigned_value op around a b) ≡ labels_lvalue a.lvalue
 copied_labels None around a b h = written_copied_labels (sort_of a.type) a.lvalue a.place (given a.type b.type b.value) h
-copied_labels (Some op) around a b h = changed_copied_labels (kind_of a.type) (sort_of a.type) a.lvalue a.place (compound_at op) (kind_of b.type) (step_in around.structs a.type) (number_in b.value) false h
+copied_labels (Some op) around a b h = changed_copied_labels (kind_of a.type) (sort_of a.type) a.lvalue a.place op (kind_of b.type) (step_in around.structs a.type) (number_in b.value) false h
 
 -- the value of what is copied is an address
 whole_ending : (w : Bool) (t : Sorted) (x : Spot) (d : ℕ) → is_copied x t ≡ true → ending w (reads_number x t) d ≡ []
@@ -197,7 +196,7 @@ whole_ending false o.Whole sp.Memory d h = refl
 whole_ending true o.Nothing sp.Memory d h = refl
 whole_ending false o.Nothing sp.Memory d h = refl
 
-pub copy_form : (op : Option ℕ) (w : Bool) (around : Around) (a b : Found) (q : Place) (r : Reached) (d : ℕ) (s : Put) → is_copied (spot_of a.lvalue) (sorted (sort_of a.type)) ≡ true
+pub copy_form : (op : Option Arithmetic) (w : Bool) (around : Around) (a b : Found) (q : Place) (r : Reached) (d : ℕ) (s : Put) → is_copied (spot_of a.lvalue) (sorted (sort_of a.type)) ≡ true
     → went w (assign_by op around a b q r) d s ≡ went true a d s
 unfolding went
 copy_form op w around a b q r d s h =

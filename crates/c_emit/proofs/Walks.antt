@@ -13,26 +13,24 @@ use Rattle.c_tree.specs.declared.tree.Expr.{Expr}
 use Rattle.c_tree.specs.declared.tree.ExprKind.TheVariants as v
 use Rattle.c_check_rules.specs.declared.predeclared.Bind.{Bind}
 use Rattle.fat_ir.specs.declared.step.FatStep.TheVariants as s
-use Rattle.bounds_plan.specs.ElaborateTypes.{Value, sort_of, size_in}
-use Rattle.bounds_plan.specs.ElaboratePlaces.{offset_in}
-use Rattle.bounds_plan.specs.ElaborateSource.{Reached, Around, kind_at, bind_at, literal_at, past_kind, past_name}
-use Rattle.bounds_plan.specs.ElaborateExpressions.{Found, no_place, chosen_as, find_all, called, starred, based, without_literals, expression}
+use Rattle.bounds_plan.specs.elaboration.Types.{sort_of, size_in}
+use Rattle.bounds_plan.specs.elaboration.Places.{offset_in}
+use Rattle.bounds_plan.specs.elaboration.Source.{Reached, Around, kind_at, bind_at, literal_at, past_kind, past_name}
+use Rattle.bounds_plan.specs.elaboration.Expressions.{Found, no_place, chosen_as, find_all, called, starred, based, without_literals, expression, binary}
 use Rattle.steps_facts.specs.declared.seen.Sorted.{Sorted}
 use Rattle.steps_facts.specs.declared.seen.Sorted.TheVariants as o
 use Rattle.steps_facts.specs.declared.seen.Facts.{Facts}
 use Rattle.steps_facts.specs.Seen.{SeenOf, sorted, facts_of, is_number, seen_in}
 use Rattle.steps_facts.specs.Around.{index_of, trails, OffsetIs, RuleIs}
-use Rattle.steps_pieces.specs.declared.operators.Joint.{Joint}
-use Rattle.steps_pieces.specs.declared.operators.Single.{Single}
-use Rattle.steps_pieces.specs.declared.operators.Single.TheVariants as u
-use Rattle.steps_pieces.specs.Operators.{single_at, takes_place, joint_at, joint_labels, second_at}
+use Rattle.c_tree.specs.declared.operators.UnaryOp.{UnaryOp}
+use Rattle.c_tree.specs.declared.operators.UnaryOp.TheVariants as u
+use Rattle.c_tree.specs.declared.operators.BinaryOp.{BinaryOp}
+use Rattle.steps_pieces.specs.Operators.{takes_place, joint_labels, second_at}
 use Rattle.steps_pieces.specs.Wanted.{addressing, null_at}
 use Rattle.steps_pieces.specs.Own.{word_own, text_own, name_own, single_own, cast_own, joint_between, joint_behind, choice_of, crossing, choice_end, is_copied, value_at, assigned_sort, assigned_own, stepped_own, element_own, member_own, converting, takes, call_labels, call_own}
 use Rattle.steps_pieces.specs.Put.{Put, added, skipped, went, went_given, went_all}
 use Rattle.c_look.specs.Looks.{facts_at, single_seen, part_seen, cast_seen}
 use Rattle.c_look.proofs.Expressions.{is_number as is_word, is_text, is_name, is_unary, is_binary, is_assign, is_step, is_cond, is_call, is_index, is_member, is_arrow, is_cast, is_size, is_sizeof}
-use Rattle.c_look.proofs.Values.{single_is, joined, joined_is}
-use Rattle.c_emit.specs.Assigned.{operator_for}
 use Rattle.c_emit.specs.Argued.{places_of}
 use Rattle.c_emit.proofs.Forms.{word_form, text_form, name_form, single_form, cast_form, joint_form, choice_form, given_number_form, given_null_form, given_pointer_form, given_whole_form, given_nothing_form}
 use Rattle.c_emit.proofs.Places.{assign_form, copy_form, step_form, index_form, member_form, arrow_form}
@@ -57,62 +55,59 @@ name_walk e name around r w d facts bind t0 t1 is hf hb h = for_it w e around r 
     (h ∙ ap (λ (z : Bind). added (name_own around z facts w e.place d) t0) hb ∙ ap (λ (z : Facts). added (name_own around (bind_at around r) z w e.place d) t0) hf
     ∙ sym (name_form w around (kind_at around r) (bind_at around r) e.place (past_name (past_kind r)) d t0))
 
-single_sort : (op : Single) (around : Around) (p : Place) (r : Reached) → (single_seen op around p r).facts.sort ≡ (facts_at around r).sort
-single_sort u.Negative around p r = refl
-single_sort u.Inverse around p r = refl
-single_sort u.IsZero around p r = refl
-single_sort u.Pointed around p r = refl
+single_sort : (op : UnaryOp) (around : Around) (p : Place) (r : Reached) → (single_seen op around p r).facts.sort ≡ (facts_at around r).sort
+single_sort u.Neg around p r = refl
+single_sort u.BitNot around p r = refl
+single_sort u.Not around p r = refl
+single_sort u.Deref around p r = refl
 single_sort u.AddressOf around p r = refl
 
-pub single_walk : (e : Expr) (op : ℕ) (a : Expr) (around : Around) (r : Reached) (w place : Bool) (d : ℕ) (one : Single) (x own : SeenOf) (t0 t1 t2 : Put) → e.kind ≡ v.Unary op a → one ≡ single_at op → place ≡ takes_place one
-    → x ≡ seen_in around.structs (expression a around r) → own ≡ single_seen one around e.place x.after → t1 ≡ went place (expression a around r) d t0 → t2 ≡ added (single_own one x own.facts.sort w e.place d) t1
+pub single_walk : (e : Expr) (op : UnaryOp) (a : Expr) (around : Around) (r : Reached) (w place : Bool) (d : ℕ) (x own : SeenOf) (t0 t1 t2 : Put) → e.kind ≡ v.Unary op a → place ≡ takes_place op
+    → x ≡ seen_in around.structs (expression a around r) → own ≡ single_seen op around e.place x.after → t1 ≡ went place (expression a around r) d t0 → t2 ≡ added (single_own op x own.facts.sort w e.place d) t1
     → t2 ≡ went w (expression e around r) d t0
-single_walk e op a around r w place d one x own t0 t1 t2 is ho hp hx hn h1 h2 = let f = expression a around r in
-    let G : Single → SeenOf → Sorted → Put = λ z y k. added (single_own z y k w e.place d) (went (takes_place z) f d t0) in
-    for_it w e around r _ d t0 t2 (is_unary e op a around r is ∙ single_is op (kind_at around f.after) f e.place (past_kind f.after))
-    (h2 ∙ ap (λ (z : Put). added (single_own one x own.facts.sort w e.place d) z) (h1 ∙ ap (λ (z : Bool). went z f d t0) hp)
-    ∙ ap (λ (k : Sorted). G one x k) (ap (λ (z : SeenOf). z.facts.sort) hn ∙ single_sort one around e.place x.after)
-    ∙ ap (λ (z : SeenOf). G one z (facts_at around z.after).sort) hx
-    ∙ ap (λ (z : Single). G z (seen_in around.structs f) (facts_at around f.after).sort) ho
-    ∙ sym (single_form around.structs (single_at op) w (kind_at around f.after) f e.place (past_kind f.after) d t0))
+single_walk e op a around r w place d x own t0 t1 t2 is hp hx hn h1 h2 = let f = expression a around r in
+    let G : SeenOf → Sorted → Put = λ y k. added (single_own op y k w e.place d) (went (takes_place op) f d t0) in
+    for_it w e around r _ d t0 t2 (is_unary e op a around r is)
+    (h2 ∙ ap (λ (z : Put). added (single_own op x own.facts.sort w e.place d) z) (h1 ∙ ap (λ (z : Bool). went z f d t0) hp)
+    ∙ ap (λ (k : Sorted). G x k) (ap (λ (z : SeenOf). z.facts.sort) hn ∙ single_sort op around e.place x.after)
+    ∙ ap (λ (z : SeenOf). G z (facts_at around z.after).sort) hx
+    ∙ sym (single_form around.structs op w (kind_at around f.after) f e.place (past_kind f.after) d t0))
 
-pub binary_walk : (e : Expr) (op : ℕ) (a b : Expr) (around : Around) (r : Reached) (w : Bool) (d d2 k first : ℕ) (joint : Joint) (x y own : SeenOf) (t0 t1 t2 t3 t4 t5 : Put) → e.kind ≡ v.Binary op a b → joint ≡ joint_at op
-    → k ≡ joint_labels joint → d2 ≡ second_at joint d → first ≡ t0.label
+pub binary_walk : (e : Expr) (op : BinaryOp) (a b : Expr) (around : Around) (r : Reached) (w : Bool) (d d2 k first : ℕ) (x y own : SeenOf) (t0 t1 t2 t3 t4 t5 : Put) → e.kind ≡ v.Binary op a b
+    → k ≡ joint_labels op → d2 ≡ second_at op d → first ≡ t0.label
     → x ≡ seen_in around.structs (expression a around r) → y ≡ seen_in around.structs (expression b around x.after) → own ≡ seen_in around.structs (expression e around r)
-    → t1 ≡ skipped k t0 → t2 ≡ went false (expression a around r) d t1 → t3 ≡ added (joint_between joint x y first d) t2 → t4 ≡ went false (expression b around x.after) d2 t3 → t5 ≡ added (joint_behind joint x y first w own.number d) t4
+    → t1 ≡ skipped k t0 → t2 ≡ went false (expression a around r) d t1 → t3 ≡ added (joint_between op x y first d) t2 → t4 ≡ went false (expression b around x.after) d2 t3 → t5 ≡ added (joint_behind op x y first w own.number d) t4
     → t5 ≡ went w (expression e around r) d t0
-binary_walk e op a b around r w d d2 k first joint x y own t0 t1 t2 t3 t4 t5 is hj hk hd hl hx hy hn h1 h2 h3 h4 h5 = let f = expression a around r in let g = expression b around f.after in
-    let same : expression e around r ≡ no_place (kind_at around g.after) (joined (joint_at op) around f g) e.place (past_kind g.after)
-    = is_binary e op a b around r is ∙ ap (λ (z : Value). no_place (kind_at around g.after) z e.place (past_kind g.after)) (joined_is op around f g) in
-    let num : own.number ≡ is_number (joined (joint_at op) around f g) = ap (λ (z : SeenOf). z.number) hn ∙ ap (λ (z : Found). is_number z.value) same in
-    let G : Joint → SeenOf → SeenOf → Bool → ℕ → ℕ → Put = λ j z y n k d2. added (joint_behind j z y first w n d) (went false (expression b around z.after) d2 (added (joint_between j z y first d) (went false f d (skipped k t0)))) in
+binary_walk e op a b around r w d d2 k first x y own t0 t1 t2 t3 t4 t5 is hk hd hl hx hy hn h1 h2 h3 h4 h5 = let f = expression a around r in let g = expression b around f.after in
+    let same = is_binary e op a b around r is in
+    let num : own.number ≡ is_number (binary op around f g) = ap (λ (z : SeenOf). z.number) hn ∙ ap (λ (z : Found). is_number z.value) same in
+    let G : SeenOf → SeenOf → Bool → ℕ → ℕ → Put = λ z y n k d2. added (joint_behind op z y first w n d) (went false (expression b around z.after) d2 (added (joint_between op z y first d) (went false f d (skipped k t0)))) in
     for_it w e around r _ d t0 t5 same
-    (h5 ∙ ap (λ (z : Put). added (joint_behind joint x y first w own.number d) z) (h4 ∙ ap (λ (z : Put). went false (expression b around x.after) d2 z)
-    (h3 ∙ ap (λ (z : Put). added (joint_between joint x y first d) z) (h2 ∙ ap (λ (z : Put). went false f d z) h1)))
-    ∙ ap (λ (n : Bool). G joint x y n k d2) num
-    ∙ ap (λ (m : ℕ). G joint x y (is_number (joined (joint_at op) around f g)) m d2) hk
-    ∙ ap (λ (m : ℕ). G joint x y (is_number (joined (joint_at op) around f g)) (joint_labels joint) m) hd
-    ∙ ap (λ (z : SeenOf). G joint x z (is_number (joined (joint_at op) around f g)) (joint_labels joint) (second_at joint d)) hy
-    ∙ ap (λ (z : SeenOf). G joint z (seen_in around.structs (expression b around z.after)) (is_number (joined (joint_at op) around f g)) (joint_labels joint) (second_at joint d)) hx
-    ∙ ap (λ (j : Joint). G j (seen_in around.structs f) (seen_in around.structs g) (is_number (joined (joint_at op) around f g)) (joint_labels j) (second_at j d)) hj
-    ∙ ap (λ (m : ℕ). added (joint_behind (joint_at op) (seen_in around.structs f) (seen_in around.structs g) m w (is_number (joined (joint_at op) around f g)) d)
-    (went false g (second_at (joint_at op) d) (added (joint_between (joint_at op) (seen_in around.structs f) (seen_in around.structs g) m d) (went false f d (skipped (joint_labels (joint_at op)) t0))))) hl
-    ∙ sym (joint_form (joint_at op) around w (kind_at around g.after) f g e.place (past_kind g.after) d t0))
+    (h5 ∙ ap (λ (z : Put). added (joint_behind op x y first w own.number d) z) (h4 ∙ ap (λ (z : Put). went false (expression b around x.after) d2 z)
+    (h3 ∙ ap (λ (z : Put). added (joint_between op x y first d) z) (h2 ∙ ap (λ (z : Put). went false f d z) h1)))
+    ∙ ap (λ (n : Bool). G x y n k d2) num
+    ∙ ap (λ (m : ℕ). G x y (is_number (binary op around f g)) m d2) hk
+    ∙ ap (λ (m : ℕ). G x y (is_number (binary op around f g)) (joint_labels op) m) hd
+    ∙ ap (λ (z : SeenOf). G x z (is_number (binary op around f g)) (joint_labels op) (second_at op d)) hy
+    ∙ ap (λ (z : SeenOf). G z (seen_in around.structs (expression b around z.after)) (is_number (binary op around f g)) (joint_labels op) (second_at op d)) hx
+    ∙ ap (λ (m : ℕ). added (joint_behind op (seen_in around.structs f) (seen_in around.structs g) m w (is_number (binary op around f g)) d)
+    (went false g (second_at op d) (added (joint_between op (seen_in around.structs f) (seen_in around.structs g) m d) (went false f d (skipped (joint_labels op) t0))))) hl
+    ∙ sym (joint_form op around w (kind_at around g.after) f g e.place (past_kind g.after) d t0))
 
-pub assign_walk : (e : Expr) (op : Option ℕ) (a b : Expr) (around : Around) (r : Reached) (w : Bool) (d d2 : ℕ) (to : Sorted) (operator : Option Arithmetic) (x y : SeenOf) (t0 t1 t2 t3 : Put) → e.kind ≡ v.Assign op a b
+pub assign_walk : (e : Expr) (op : Option Arithmetic) (a b : Expr) (around : Around) (r : Reached) (w : Bool) (d d2 : ℕ) (to : Sorted) (x y : SeenOf) (t0 t1 t2 t3 : Put) → e.kind ≡ v.Assign op a b
     → x ≡ seen_in around.structs (expression a around r) → y ≡ seen_in around.structs (expression b around x.after) → is_copied x.spot x.facts.sort ≡ false
-    → to ≡ assigned_sort op x.facts.sort → d2 ≡ value_at x.spot d → operator ≡ operator_for op
-    → t1 ≡ went true (expression a around r) d t0 → t2 ≡ went_given to (expression b around x.after) d2 t1 → t3 ≡ added (assigned_own operator x y w d) t2 → t3 ≡ went w (expression e around r) d t0
-assign_walk e op a b around r w d d2 to operator x y t0 t1 t2 t3 is hx hy hc ht hd ho h1 h2 h3 = let f = expression a around r in let g = expression b around f.after in
-    let G : SeenOf → SeenOf → Sorted → ℕ → Option Arithmetic → Put = λ z y k m p. added (assigned_own p z y w d) (went_given k (expression b around z.after) m (went true f d t0)) in
+    → to ≡ assigned_sort op x.facts.sort → d2 ≡ value_at x.spot d
+    → t1 ≡ went true (expression a around r) d t0 → t2 ≡ went_given to (expression b around x.after) d2 t1 → t3 ≡ added (assigned_own op x y w d) t2 → t3 ≡ went w (expression e around r) d t0
+assign_walk e op a b around r w d d2 to x y t0 t1 t2 t3 is hx hy hc ht hd h1 h2 h3 = let f = expression a around r in let g = expression b around f.after in
+    let G : SeenOf → SeenOf → Sorted → ℕ → Put = λ z y k m. added (assigned_own op z y w d) (went_given k (expression b around z.after) m (went true f d t0)) in
     for_it w e around r _ d t0 t3 (is_assign e op a b around r is)
-    (h3 ∙ ap (λ (z : Put). added (assigned_own operator x y w d) z) (h2 ∙ ap (λ (z : Put). went_given to (expression b around x.after) d2 z) h1)
-    ∙ ap (λ (k : Sorted). G x y k d2 operator) ht ∙ ap (λ (m : ℕ). G x y (assigned_sort op x.facts.sort) m operator) hd ∙ ap (λ (p : Option Arithmetic). G x y (assigned_sort op x.facts.sort) (value_at x.spot d) p) ho
-    ∙ ap (λ (z : SeenOf). G x z (assigned_sort op x.facts.sort) (value_at x.spot d) (operator_for op)) hy
-    ∙ ap (λ (z : SeenOf). G z (seen_in around.structs (expression b around z.after)) (assigned_sort op z.facts.sort) (value_at z.spot d) (operator_for op)) hx
+    (h3 ∙ ap (λ (z : Put). added (assigned_own op x y w d) z) (h2 ∙ ap (λ (z : Put). went_given to (expression b around x.after) d2 z) h1)
+    ∙ ap (λ (k : Sorted). G x y k d2) ht ∙ ap (λ (m : ℕ). G x y (assigned_sort op x.facts.sort) m) hd
+    ∙ ap (λ (z : SeenOf). G x z (assigned_sort op x.facts.sort) (value_at x.spot d)) hy
+    ∙ ap (λ (z : SeenOf). G z (seen_in around.structs (expression b around z.after)) (assigned_sort op z.facts.sort) (value_at z.spot d)) hx
     ∙ sym (assign_form op w around f g e.place (past_kind g.after) d t0 (ap (λ (z : SeenOf). is_copied z.spot z.facts.sort) (sym hx) ∙ hc)))
 
-pub copy_walk : (e : Expr) (op : Option ℕ) (a b : Expr) (around : Around) (r : Reached) (w : Bool) (d : ℕ) (x : SeenOf) (t0 t1 : Put) → e.kind ≡ v.Assign op a b → x ≡ seen_in around.structs (expression a around r) → is_copied x.spot x.facts.sort ≡ true
+pub copy_walk : (e : Expr) (op : Option Arithmetic) (a b : Expr) (around : Around) (r : Reached) (w : Bool) (d : ℕ) (x : SeenOf) (t0 t1 : Put) → e.kind ≡ v.Assign op a b → x ≡ seen_in around.structs (expression a around r) → is_copied x.spot x.facts.sort ≡ true
     → t1 ≡ went true (expression a around r) d t0 → t1 ≡ went w (expression e around r) d t0
 copy_walk e op a b around r w d x t0 t1 is hx hc h = let f = expression a around r in let g = expression b around f.after in
     for_it w e around r _ d t0 t1 (is_assign e op a b around r is) (h ∙ sym (copy_form op w around f g e.place (past_kind g.after) d t0 (ap (λ (z : SeenOf). is_copied z.spot z.facts.sort) (sym hx) ∙ hc)))

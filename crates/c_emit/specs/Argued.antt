@@ -1,8 +1,8 @@
 -- Where the arguments of a call stand.
 use Rattle.std.specs.Prelude.{ℕ, ◌+◌, true, Option, List, [], ◌∷◌}
 use Rattle.c_tree.specs.declared.tree.Expr.{Expr}
-use Rattle.bounds_plan.specs.ElaborateSource.{Reached, Around}
-use Rattle.bounds_plan.specs.ElaborateExpressions.{expression}
+use Rattle.bounds_plan.specs.elaboration.Source.{Reached, Around}
+use Rattle.bounds_plan.specs.elaboration.Expressions.{expression}
 use Rattle.steps_facts.specs.declared.seen.Sorted.{Sorted}
 use Rattle.steps_facts.specs.Seen.{is_number}
 use Rattle.steps_pieces.specs.Own.{place_of}

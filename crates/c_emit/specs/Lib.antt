@@ -1,2 +1,1 @@
-pub mod Assigned
 pub mod Argued

@@ -1,38 +1,27 @@
 //! The steps of expressions.
 
 ghost use Rattle.std.specs.Prelude.{◌≡◌, ◌+◌, ◌≤◌, ◌^◌, ◌&&◌, OnOk, IfOk, length};
-ghost use Rattle.bounds_plan.specs.ElaborateExpressions.{expression};
+ghost use Rattle.bounds_plan.specs.elaboration.Expressions.{expression};
 ghost use Rattle.steps_facts.specs.Seen.{view_of, seen_in, reached_of};
 ghost use Rattle.steps_pieces.specs.Put.{put_of, went, went_given, went_all};
 ghost use Rattle.c_emit.specs.Argued.{places_of};
-ghost use Rattle.c_emit.specs.Assigned.{operator_for as operator_by};
 
 use c_look::{
     assigned_seen, call_seen, cast_seen, choice_seen, joint_seen, look, look_all, name_seen,
     part_seen, single_seen, size_seen, stepped_seen, text_seen, word_seen,
 };
 use c_tree::{Expr, ExprKind};
-use mx_base::{Arithmetic, OutOfMemory};
+use mx_base::OutOfMemory;
 use narrowing::of_element;
 use sqlite_items::Items;
 use steps_facts::{Knows, Reached, Seen, Sorted};
 use steps_pieces::{
-    Emitter, LAST, assigned_sort, call_labels, choice_of, compound_at, is_copied, joint_at,
-    joint_labels, parameters_of, put_addressed, put_assigned, put_call, put_cast, put_choice_end,
-    put_converted, put_crossing, put_element, put_joined, put_joint, put_jump_if, put_member,
-    put_name, put_no_pointer, put_single, put_stepped, put_text, put_word, second_at, single_at,
-    stands_at, take_labels, takes_place, value_at,
+    Emitter, LAST, assigned_sort, call_labels, choice_of, is_copied, joint_labels, parameters_of,
+    put_addressed, put_assigned, put_call, put_cast, put_choice_end, put_converted, put_crossing,
+    put_element, put_joined, put_joint, put_jump_if, put_member, put_name, put_no_pointer,
+    put_single, put_stepped, put_text, put_word, second_at, stands_at, take_labels, takes_place,
+    value_at,
 };
-
-/// The operator of an assignment, by its place in the list that begins with `=`.
-fn operator_for(op: Option<u8>) -> Option<Arithmetic>
-    ensures { result ≡ operator_by op }
-{
-    match op {
-        None => None,
-        Some(n) => Some(compound_at(n)),
-    }
-}
 
 /// How many bytes a text takes with the byte 0 at its end.
 fn text_size(text: &[u8]) -> u64
@@ -88,23 +77,21 @@ pub fn emit<K: Knows>(
         }
         ExprKind::Unary(op, a) => {
             let operand = a.get();
-            let single = single_at(*op);
-            let x = emit(out, known, operand, r, d, takes_place(single))?;
-            let own = single_seen(known, single, e.place, x.after)?;
-            put_single(out, single, x, own.facts.sort, place, e.place, d)?;
+            let x = emit(out, known, operand, r, d, takes_place(*op))?;
+            let own = single_seen(known, *op, e.place, x.after)?;
+            put_single(out, *op, x, own.facts.sort, place, e.place, d)?;
             Ok(own)
         }
         ExprKind::Binary(op, a, b) => {
             let left = a.get();
             let right = b.get();
-            let joint = joint_at(*op);
-            let first = take_labels(out, joint_labels(joint))?;
+            let first = take_labels(out, joint_labels(*op))?;
             let x = emit(out, known, left, r, d, false)?;
             let y = look(known, right, x.after)?;
-            put_joint(out, joint, x, y, first, d)?;
-            emit(out, known, right, x.after, second_at(joint, d), false)?;
-            let own = joint_seen(known, joint, x, y, e.place)?;
-            put_joined(out, joint, x, y, first, place, own.number, d)?;
+            put_joint(out, *op, x, y, first, d)?;
+            emit(out, known, right, x.after, second_at(*op, d), false)?;
+            let own = joint_seen(known, *op, x, y, e.place)?;
+            put_joined(out, *op, x, y, first, place, own.number, d)?;
             Ok(own)
         }
         ExprKind::Assign(op, a, b) => {
@@ -120,7 +107,7 @@ pub fn emit<K: Knows>(
                 let to = assigned_sort(*op, x.facts.sort);
                 let y = emit_given(out, known, to, source, x.after, value_at(x.spot, d))?;
                 let own = assigned_seen(known, x, y, e.place)?;
-                put_assigned(out, operator_for(*op), x, y, place, d)?;
+                put_assigned(out, *op, x, y, place, d)?;
                 Ok(own)
             }
         }

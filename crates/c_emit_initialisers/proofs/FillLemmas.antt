@@ -7,10 +7,10 @@ use Rattle.c_tree.specs.declared.tree.InitKind.{InitKind}
 use Rattle.c_tree.specs.declared.tree.InitKind.TheVariants as v
 use Rattle.c_types.specs.Types.{CType, Array, Struct, Types, type_at, members_of}
 use Rattle.c_types.specs.Layouts.{layout_of, offsets_from}
-use Rattle.bounds_plan.specs.ElaboratePlaces.{Lvalue}
-use Rattle.bounds_plan.specs.ElaborateSource.{Reached, Around}
-use Rattle.bounds_plan.specs.ElaborateExpressions.{expression}
-use Rattle.bounds_plan.specs.ElaborateInitialisers.{Filled, Filling, zeros, member_zeros, one_filled, after_one, elements_filled, members_filled, many_filled, initialiser}
+use Rattle.bounds_plan.specs.elaboration.Places.{Lvalue}
+use Rattle.bounds_plan.specs.elaboration.Source.{Reached, Around}
+use Rattle.bounds_plan.specs.elaboration.Expressions.{expression}
+use Rattle.bounds_plan.specs.elaboration.Initialisers.{Filled, Filling, zeros, member_zeros, one_filled, after_one, elements_filled, members_filled, many_filled, initialiser}
 use Rattle.steps_facts.specs.declared.knows.Part.{Part}
 use Rattle.steps_facts.specs.Around.{part_types, part_offsets}
 use Rattle.steps_pieces.specs.Put.{Put}

@@ -8,14 +8,14 @@ use Rattle.c_types.specs.declared.shape.TypeId.{TypeId}
 use Rattle.c_types.specs.declared.shape.Shape.{Shape}
 use Rattle.c_types.specs.Types.{CType, Void, Int, Pointer, Array, Struct, StructType, built}
 use Rattle.fat_ir.specs.declared.step.FatStep.{FatStep}
-use Rattle.bounds_plan.specs.Core.{Scalar}
-use Rattle.bounds_plan.specs.Code.{labels_ptr, code_ptr}
-use Rattle.bounds_plan.specs.ElaborateTypes.{Value, Numeric, Address, sort_of, size_in, kind_of, given}
-use Rattle.bounds_plan.specs.ElaborateScalars.{scalars_of}
-use Rattle.bounds_plan.specs.ElaboratePlaces.{Lvalue, NumberVariable, PointerVariable, InMemory, written_as, address_in}
-use Rattle.bounds_plan.specs.ElaborateSource.{Reached, Around}
-use Rattle.bounds_plan.specs.ElaborateExpressions.{Found, effect_of, a_place, assigned, assign_by, struct_copied}
-use Rattle.bounds_plan.specs.ElaborateInitialisers.{part_at, one_filled, after_one, bytes_of, text_filled}
+use Rattle.bounds_plan.specs.meaning.Core.{Scalar}
+use Rattle.bounds_plan.specs.steps.Code.{labels_ptr, code_ptr}
+use Rattle.bounds_plan.specs.elaboration.Types.{Value, Numeric, Address, sort_of, size_in, kind_of, given}
+use Rattle.bounds_plan.specs.elaboration.Scalars.{scalars_of}
+use Rattle.bounds_plan.specs.elaboration.Places.{Lvalue, NumberVariable, PointerVariable, InMemory, written_as, address_in}
+use Rattle.bounds_plan.specs.elaboration.Source.{Reached, Around}
+use Rattle.bounds_plan.specs.elaboration.Expressions.{Found, effect_of, a_place, assigned, assign_by, struct_copied}
+use Rattle.bounds_plan.specs.elaboration.Initialisers.{part_at, one_filled, after_one, bytes_of, text_filled}
 use Rattle.steps_facts.specs.declared.seen.Sorted.{Sorted}
 use Rattle.steps_facts.specs.declared.seen.Sorted.TheVariants as o
 use Rattle.steps_facts.specs.declared.seen.Facts.{Facts}
@@ -25,7 +25,7 @@ use Rattle.steps_facts.specs.declared.knows.Standing.{Standing}
 use Rattle.steps_facts.specs.declared.knows.Standing.TheVariants as t
 use Rattle.steps_facts.specs.Seen.{SeenOf, sorted, kind_in, facts_of, is_number, spot_of, seen_in}
 use Rattle.steps_facts.specs.Around.{standing_at}
-use Rattle.steps_pieces.specs.declared.operators.Single.TheVariants as u
+use Rattle.c_tree.specs.declared.operators.UnaryOp.TheVariants as u
 use Rattle.steps_pieces.specs.Wanted.{code_value, labels_value, code_lvalue, labels_lvalue, given_number}
 use Rattle.steps_pieces.specs.Own.{is_copied, value_at, storing, assigned_own, single_own, hidden}
 use Rattle.steps_pieces.specs.Put.{Put, added, goes, went, went_given}

@@ -2,25 +2,25 @@
 use Rattle.std.proofs.Common.{◌≡◌, ℕ, zero, suc, ◌+◌, ◌-◌, Bool, Option, None, Some, List, [], ◌∷◌, refl, sym, ap, ◌∙◌, arith}
 use Rattle.mx_base.specs.declared.numbers.IntKind.{IntKind}
 use Rattle.mx_base.specs.declared.places.Place.{Place}
+use Rattle.mx_base.specs.declared.operators.Arithmetic.{Arithmetic}
+use Rattle.c_tree.specs.declared.operators.UnaryOp.{UnaryOp}
+use Rattle.c_tree.specs.declared.operators.UnaryOp.TheVariants as u
+use Rattle.c_tree.specs.declared.operators.BinaryOp.{BinaryOp}
 use Rattle.c_tree.specs.declared.tree.Base.{Base}
 use Rattle.c_tree.specs.declared.tree.Expr.{Expr}
 use Rattle.c_tree.specs.declared.tree.ExprKind.TheVariants as v
 use Rattle.c_types.specs.Types.{CType}
 use Rattle.c_check_rules.specs.declared.predeclared.Bind.{Bind}
 use Rattle.c_check_rules.specs.declared.predeclared.Bind.TheVariants.{Global, Local, Fun, Service, Builtin}
-use Rattle.bounds_plan.specs.ElaborateSource.{Reached, Around}
-use Rattle.bounds_plan.specs.ElaborateExpressions.{Found, named, assign_by, expression}
-use Rattle.bounds_plan.specs.ElaborateInitialisers.{bytes_of, text_filled}
+use Rattle.bounds_plan.specs.elaboration.Source.{Reached, Around}
+use Rattle.bounds_plan.specs.elaboration.Expressions.{Found, named, unary, assign_by, expression}
+use Rattle.bounds_plan.specs.elaboration.Initialisers.{bytes_of, text_filled}
 use Rattle.steps_facts.specs.declared.knows.Standing.{Standing}
 use Rattle.steps_facts.specs.Around.{standing_at}
-use Rattle.steps_pieces.specs.declared.operators.Single.{Single}
-use Rattle.steps_pieces.specs.declared.operators.Single.TheVariants as u
-use Rattle.steps_pieces.specs.Operators.{single_at}
 use Rattle.steps_pieces.specs.Put.{Put}
 use Rattle.steps_filling.specs.Effects.{went_effect, went_effects}
 use Rattle.steps_filling.specs.Parts.{number_filled}
 use Rattle.c_look.proofs.Expressions.{is_number, is_text, is_name, is_unary, is_binary, is_assign, is_step, is_cond, is_call, is_index, is_member, is_arrow, is_cast, is_size, is_sizeof}
-use Rattle.c_look.proofs.Values.{single, single_is}
 use Rattle.c_emit_initialisers.specs.Texts.{HasText, first_word, behind_first}
 
 bytes : Found → List ℕ
@@ -44,24 +44,24 @@ named_text around t (Builtin n) p r = refl
 pub text_name : (e : Expr) (name : List ℕ) → e.kind ≡ v.Var name → HasText e []
 text_name e name is around r = ap (λ (z : Found). bytes_of z.text) (is_name e name around r is) ∙ named_text around _ _ e.place _
 
-single_text : (op : Single) (t : CType) (a : Found) (p : Place) (r : Reached) → bytes_of (single op t a p r).text ≡ []
-single_text u.Negative t a p r = refl
-single_text u.Inverse t a p r = refl
-single_text u.IsZero t a p r = refl
-single_text u.Pointed t a p r = refl
-single_text u.AddressOf t a p r = refl
+unary_text : (op : UnaryOp) (t : CType) (a : Found) (p : Place) (r : Reached) → bytes_of (unary op t a p r).text ≡ []
+unary_text u.Neg t a p r = refl
+unary_text u.BitNot t a p r = refl
+unary_text u.Not t a p r = refl
+unary_text u.Deref t a p r = refl
+unary_text u.AddressOf t a p r = refl
 
-pub text_unary : (e : Expr) (op : ℕ) (a : Expr) → e.kind ≡ v.Unary op a → HasText e []
-text_unary e op a is around r = ap (λ (z : Found). bytes_of z.text) (is_unary e op a around r is ∙ single_is op _ (expression a around r) e.place _) ∙ single_text (single_at op) _ (expression a around r) e.place _
+pub text_unary : (e : Expr) (op : UnaryOp) (a : Expr) → e.kind ≡ v.Unary op a → HasText e []
+text_unary e op a is around r = ap (λ (z : Found). bytes_of z.text) (is_unary e op a around r is) ∙ unary_text op _ (expression a around r) e.place _
 
-pub text_binary : (e : Expr) (op : ℕ) (a b : Expr) → e.kind ≡ v.Binary op a b → HasText e []
+pub text_binary : (e : Expr) (op : BinaryOp) (a b : Expr) → e.kind ≡ v.Binary op a b → HasText e []
 text_binary e op a b is around r = ap (λ (z : Found). bytes_of z.text) (is_binary e op a b around r is)
 
-assign_text : (op : Option ℕ) (around : Around) (a b : Found) (p : Place) (r : Reached) → bytes_of (assign_by op around a b p r).text ≡ []
+assign_text : (op : Option Arithmetic) (around : Around) (a b : Found) (p : Place) (r : Reached) → bytes_of (assign_by op around a b p r).text ≡ []
 assign_text None around a b p r = refl
 assign_text (Some op) around a b p r = refl
 
-pub text_assign : (e : Expr) (op : Option ℕ) (a b : Expr) → e.kind ≡ v.Assign op a b → HasText e []
+pub text_assign : (e : Expr) (op : Option Arithmetic) (a b : Expr) → e.kind ≡ v.Assign op a b → HasText e []
 text_assign e op a b is around r = ap (λ (z : Found). bytes_of z.text) (is_assign e op a b around r is) ∙ assign_text op around _ _ e.place _
 
 pub text_step : (e : Expr) (up before : Bool) (a : Expr) → e.kind ≡ v.StepBy up before a → HasText e []

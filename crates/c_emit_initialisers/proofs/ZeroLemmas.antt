@@ -2,10 +2,10 @@
 use Rattle.std.proofs.Common.{◌≡◌, ℕ, zero, suc, ◌+◌, ◌-◌, ◌<◌, ◌≤◌, length, slice_index_or, drop, drop-cons, List, [], ◌∷◌, ◌++◌, map, refl, sym, ap, ◌∙◌, arith}
 use Rattle.mx_base.specs.declared.places.Place.{Place}
 use Rattle.c_types.specs.Types.{CType, Array, StructType, Types, type_at}
-use Rattle.bounds_plan.specs.Core.{Effect, Scalar}
-use Rattle.bounds_plan.specs.ElaborateScalars.{scalar_at, repeated, scalars_of}
-use Rattle.bounds_plan.specs.ElaborateTypes.{size_in}
-use Rattle.bounds_plan.specs.ElaborateInitialisers.{zero_written, zeros, member_zeros}
+use Rattle.bounds_plan.specs.meaning.Core.{Effect, Scalar}
+use Rattle.bounds_plan.specs.elaboration.Scalars.{scalar_at, repeated, scalars_of}
+use Rattle.bounds_plan.specs.elaboration.Types.{size_in}
+use Rattle.bounds_plan.specs.elaboration.Initialisers.{zero_written, zeros, member_zeros}
 use Rattle.steps_facts.specs.declared.knows.Standing.{Standing}
 use Rattle.steps_facts.specs.declared.knows.Part.{Part}
 use Rattle.steps_facts.specs.Around.{standing_at, part_types, part_offsets}

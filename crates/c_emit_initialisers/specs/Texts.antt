@@ -3,9 +3,9 @@ use Rattle.std.specs.Prelude.{◌≡◌, ℕ, List, [], ◌∷◌}
 use Rattle.mx_base.specs.declared.numbers.IntKind.{IntKind}
 use Rattle.mx_base.specs.Numbers.{extended}
 use Rattle.c_tree.specs.declared.tree.Expr.{Expr}
-use Rattle.bounds_plan.specs.ElaborateSource.{Reached, Around}
-use Rattle.bounds_plan.specs.ElaborateExpressions.{expression}
-use Rattle.bounds_plan.specs.ElaborateInitialisers.{bytes_of}
+use Rattle.bounds_plan.specs.elaboration.Source.{Reached, Around}
+use Rattle.bounds_plan.specs.elaboration.Expressions.{expression}
+use Rattle.bounds_plan.specs.elaboration.Initialisers.{bytes_of}
 
 -- its bytes, wherever it stands; what is no text has none
 abbrev pub HasText : Expr → List ℕ → Type 0

@@ -2,9 +2,9 @@
 
 ghost use Rattle.std.specs.Prelude.{◌≡◌, OnOk, IfOk, All, map};
 ghost use Rattle.c_types.specs.Types.{type_at, IsIn};
-ghost use Rattle.bounds_plan.specs.ElaborateTypes.{size_in};
-ghost use Rattle.bounds_plan.specs.ElaborateExpressions.{expression};
-ghost use Rattle.bounds_plan.specs.ElaborateInitialisers.{initialiser, many_filled, elements_filled, members_filled};
+ghost use Rattle.bounds_plan.specs.elaboration.Types.{size_in};
+ghost use Rattle.bounds_plan.specs.elaboration.Expressions.{expression};
+ghost use Rattle.bounds_plan.specs.elaboration.Initialisers.{initialiser, many_filled, elements_filled, members_filled};
 ghost use Rattle.steps_facts.specs.Seen.{reached_of};
 ghost use Rattle.steps_facts.specs.Around.{standing_at, part_types, part_offsets, IsPart};
 ghost use Rattle.steps_pieces.specs.Put.{put_of};

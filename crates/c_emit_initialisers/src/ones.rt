@@ -2,9 +2,9 @@
 
 ghost use Rattle.std.specs.Prelude.{◌≡◌, ◌+◌, ◌≤◌, ◌^◌, OnOk, IfOk};
 ghost use Rattle.c_types.specs.Types.{Array, Struct, type_at, IsIn};
-ghost use Rattle.bounds_plan.specs.ElaborateTypes.{size_in};
-ghost use Rattle.bounds_plan.specs.ElaborateExpressions.{expression, struct_copied, without_literals};
-ghost use Rattle.bounds_plan.specs.ElaborateInitialisers.{part_at, one_filled, after_one};
+ghost use Rattle.bounds_plan.specs.elaboration.Types.{size_in};
+ghost use Rattle.bounds_plan.specs.elaboration.Expressions.{expression, struct_copied, without_literals};
+ghost use Rattle.bounds_plan.specs.elaboration.Initialisers.{part_at, one_filled, after_one};
 ghost use Rattle.steps_facts.specs.Seen.{reached_of};
 ghost use Rattle.steps_facts.specs.Around.{standing_at};
 ghost use Rattle.steps_pieces.specs.Put.{put_of};
@@ -14,12 +14,12 @@ ghost use Rattle.steps_filling.specs.Parts.{went_scalar};
 use crate::texts::{put_text_filled, text_of};
 use c_emit::{emit, emit_given};
 use c_look::look;
-use c_tree::Expr;
+use c_tree::{Expr, UnaryOp};
 use c_types::{Shape, TypeId};
 use mx_base::{OutOfMemory, Place};
 use steps_facts::{Knows, Reached, Sorted, Standing};
 use steps_filling::{put_copied, put_part, put_stored, put_struct_address, spot_at};
-use steps_pieces::{Emitter, Single, kind_of, put_single, value_at};
+use steps_pieces::{Emitter, kind_of, put_single, value_at};
 
 /// A scalar takes the value of an expression.
 fn fill_scalar<K: Knows>(
@@ -68,7 +68,7 @@ fn fill_struct<K: Knows>(
     let x = emit(out, known, e, r, d + 2, true)?;
     put_single(
         out,
-        Single::AddressOf,
+        UnaryOp::AddressOf,
         x,
         x.facts.sort,
         false,

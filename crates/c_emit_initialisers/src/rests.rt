@@ -2,9 +2,9 @@
 
 ghost use Rattle.std.specs.Prelude.{◌≡◌, ◌+◌, ◌≤◌, ◌^◌, OnOk, All};
 ghost use Rattle.c_types.specs.Types.{Array, type_at, IsIn};
-ghost use Rattle.bounds_plan.specs.ElaborateScalars.{repeated};
-ghost use Rattle.bounds_plan.specs.ElaborateTypes.{size_in};
-ghost use Rattle.bounds_plan.specs.ElaborateInitialisers.{zeros, member_zeros};
+ghost use Rattle.bounds_plan.specs.elaboration.Scalars.{repeated};
+ghost use Rattle.bounds_plan.specs.elaboration.Types.{size_in};
+ghost use Rattle.bounds_plan.specs.elaboration.Initialisers.{zeros, member_zeros};
 ghost use Rattle.steps_facts.specs.Around.{standing_at, scalars_seen, part_types, part_offsets, IsPart};
 ghost use Rattle.steps_pieces.specs.Put.{put_of};
 ghost use Rattle.steps_filling.specs.Effects.{went_effects};

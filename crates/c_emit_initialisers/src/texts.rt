@@ -1,7 +1,7 @@
 //! A text fills an array.
 
 ghost use Rattle.std.specs.Prelude.{◌≡◌, ◌+◌, ◌≤◌, ◌^◌, OnOk};
-ghost use Rattle.bounds_plan.specs.ElaborateInitialisers.{text_filled};
+ghost use Rattle.bounds_plan.specs.elaboration.Initialisers.{text_filled};
 ghost use Rattle.steps_facts.specs.Around.{standing_at};
 ghost use Rattle.steps_pieces.specs.Put.{put_of};
 ghost use Rattle.steps_filling.specs.Effects.{went_effects};

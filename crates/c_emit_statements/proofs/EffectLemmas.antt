@@ -2,30 +2,30 @@
 use Rattle.std.proofs.Common.{◌≡◌, ℕ, ◌+◌, Bool, true, false, true≢false, None, List, refl, sym, ap, ◌∙◌}
 use Rattle.mx_base.specs.declared.numbers.IntKind.{IntKind}
 use Rattle.mx_base.specs.declared.places.Place.{Place}
+use Rattle.mx_base.specs.declared.operators.Arithmetic.{Arithmetic}
+use Rattle.c_tree.specs.declared.operators.UnaryOp.{UnaryOp}
+use Rattle.c_tree.specs.declared.operators.UnaryOp.TheVariants as u
+use Rattle.c_tree.specs.declared.operators.BinaryOp.{BinaryOp}
 use Rattle.c_tree.specs.declared.tree.Base.{Base}
 use Rattle.c_tree.specs.declared.tree.Expr.{Expr}
 use Rattle.c_tree.specs.declared.tree.ExprKind.TheVariants as v
 use Rattle.c_types.specs.Types.{CType, Void, Int, Pointer, Array, Struct, StructType}
 use Rattle.c_check_rules.specs.declared.predeclared.Bind.{Bind}
 use Rattle.c_check_rules.specs.declared.predeclared.Bind.TheVariants.{Global, Local, Fun, Service, Builtin}
-use Rattle.bounds_plan.specs.Core.{Effect, Scalar}
-use Rattle.bounds_plan.specs.ElaborateScalars.{scalars_of}
-use Rattle.bounds_plan.specs.ElaborateTypes.{Sort, ANumber, APointer, AWhole, NoValue, sort_of, is_array}
-use Rattle.bounds_plan.specs.ElaboratePlaces.{struct_of}
-use Rattle.bounds_plan.specs.ElaborateSource.{Reached, Around}
-use Rattle.bounds_plan.specs.ElaborateExpressions.{Found, effect_of, named, struct_copied, assigned, assignment_effect, expression}
+use Rattle.bounds_plan.specs.meaning.Core.{Effect, Scalar}
+use Rattle.bounds_plan.specs.elaboration.Scalars.{scalars_of}
+use Rattle.bounds_plan.specs.elaboration.Types.{Sort, ANumber, APointer, AWhole, NoValue, sort_of, is_array}
+use Rattle.bounds_plan.specs.elaboration.Places.{struct_of}
+use Rattle.bounds_plan.specs.elaboration.Source.{Reached, Around}
+use Rattle.bounds_plan.specs.elaboration.Expressions.{Found, effect_of, named, unary, struct_copied, assigned, assignment_effect, expression}
 use Rattle.steps_facts.specs.declared.seen.Sorted.{Sorted}
 use Rattle.steps_facts.specs.declared.seen.Sorted.TheVariants as o
 use Rattle.steps_facts.specs.Seen.{SeenOf, sorted, seen_in}
-use Rattle.steps_pieces.specs.declared.operators.Single.{Single}
-use Rattle.steps_pieces.specs.declared.operators.Single.TheVariants as u
-use Rattle.steps_pieces.specs.Operators.{single_at}
 use Rattle.steps_pieces.specs.Own.{single_own}
 use Rattle.steps_pieces.specs.Put.{Put, added, went}
 use Rattle.steps_filling.specs.Effects.{went_effect}
 use Rattle.steps_filling.specs.Parts.{copying}
 use Rattle.c_look.proofs.Expressions.{is_number, is_text, is_name, is_unary, is_binary, is_assign, is_step, is_cond, is_call, is_index, is_member, is_arrow, is_cast, is_size, is_sizeof}
-use Rattle.c_look.proofs.Values.{single, single_is}
 use Rattle.c_emit_initialisers.proofs.OneLemmas.{effect_value, place_address, copied_walk}
 use Rattle.c_emit_statements.specs.Bodies.{IsEvaluated, whole_sort}
 
@@ -53,17 +53,17 @@ named_does around t (Builtin n) p r = refl
 pub does_name : (e : Expr) (name : List ℕ) → e.kind ≡ v.Var name → IsEvaluated e
 does_name e name is around r = by_form _ _ (is_name e name around r is) (named_does around _ _ e.place _)
 
-single_does : (op : Single) (t : CType) (a : Found) (p : Place) (r : Reached) → Evaluated (single op t a p r)
-single_does u.Negative t a p r = refl
-single_does u.Inverse t a p r = refl
-single_does u.IsZero t a p r = refl
-single_does u.Pointed t a p r = refl
-single_does u.AddressOf t a p r = refl
+unary_does : (op : UnaryOp) (t : CType) (a : Found) (p : Place) (r : Reached) → Evaluated (unary op t a p r)
+unary_does u.Neg t a p r = refl
+unary_does u.BitNot t a p r = refl
+unary_does u.Not t a p r = refl
+unary_does u.Deref t a p r = refl
+unary_does u.AddressOf t a p r = refl
 
-pub does_unary : (e : Expr) (op : ℕ) (a : Expr) → e.kind ≡ v.Unary op a → IsEvaluated e
-does_unary e op a is around r = by_form _ _ (is_unary e op a around r is ∙ single_is op _ (expression a around r) e.place _) (single_does (single_at op) _ (expression a around r) e.place _)
+pub does_unary : (e : Expr) (op : UnaryOp) (a : Expr) → e.kind ≡ v.Unary op a → IsEvaluated e
+does_unary e op a is around r = by_form _ _ (is_unary e op a around r is) (unary_does op _ (expression a around r) e.place _)
 
-pub does_binary : (e : Expr) (op : ℕ) (a b : Expr) → e.kind ≡ v.Binary op a b → IsEvaluated e
+pub does_binary : (e : Expr) (op : BinaryOp) (a b : Expr) → e.kind ≡ v.Binary op a b → IsEvaluated e
 does_binary e op a b is around r = by_form _ _ (is_binary e op a b around r is) refl
 
 pub does_step : (e : Expr) (up before : Bool) (a : Expr) → e.kind ≡ v.StepBy up before a → IsEvaluated e

@@ -7,12 +7,12 @@ use Rattle.c_tree.specs.declared.tree.Init.{Init}
 use Rattle.c_tree.specs.declared.tree.Stmt.{Stmt, the_lemmas}
 use Rattle.c_tree.specs.declared.tree.StmtKind.{StmtKind}
 use Rattle.c_tree.specs.declared.tree.StmtKind.TheVariants as v
-use Rattle.bounds_plan.specs.Core.{Skip, Do, Then, If, While, DoWhile, For, Break, Continue}
-use Rattle.bounds_plan.specs.ElaborateTypes.{number_in}
-use Rattle.bounds_plan.specs.ElaborateSource.{Reached, Around}
-use Rattle.bounds_plan.specs.ElaborateExpressions.{expression}
-use Rattle.bounds_plan.specs.ElaborateInitialisers.{initialiser}
-use Rattle.bounds_plan.specs.ElaborateStatements.{Stated, stated, maybe, done_by, tested_by, declared, past_counts, returned_by, all_stated}
+use Rattle.bounds_plan.specs.meaning.Core.{Skip, Do, Then, If, While, DoWhile, For, Break, Continue}
+use Rattle.bounds_plan.specs.elaboration.Types.{number_in}
+use Rattle.bounds_plan.specs.elaboration.Source.{Reached, Around}
+use Rattle.bounds_plan.specs.elaboration.Expressions.{expression}
+use Rattle.bounds_plan.specs.elaboration.Initialisers.{initialiser}
+use Rattle.bounds_plan.specs.elaboration.Statements.{Stated, stated, maybe, done_by, tested_by, declared, past_counts, returned_by, all_stated}
 use Rattle.c_emit_statements.specs.Bodies.{statement}
 
 whole : Place → StmtKind → Around → Reached → Stated

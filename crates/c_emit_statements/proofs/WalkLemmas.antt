@@ -8,16 +8,16 @@ use Rattle.c_tree.specs.declared.tree.Stmt.{Stmt}
 use Rattle.c_tree.specs.declared.tree.StmtKind.TheVariants as v
 use Rattle.fat_ir.specs.declared.step.FatStep.{FatStep}
 use Rattle.fat_ir.specs.declared.step.FatStep.TheVariants as w
-use Rattle.bounds_plan.specs.Core.{NumberExpr, Word, Effect, Nothing, Statement, Skip, Do, Then, If, While, DoWhile, For, Break, Continue, Return}
-use Rattle.bounds_plan.specs.Code.{labels, code, labels_of, code_of}
-use Rattle.bounds_plan.specs.ElaborateTypes.{Value, Numeric, Address, number_in, sort_of, given, kind_of}
-use Rattle.bounds_plan.specs.ElaborateSource.{Reached, Around, declared_at, bind_at, past_declaration, local_number}
-use Rattle.bounds_plan.specs.ElaboratePlaces.{Lvalue}
+use Rattle.bounds_plan.specs.meaning.Core.{NumberExpr, Word, Effect, Nothing, Statement, Skip, Do, Then, If, While, DoWhile, For, Break, Continue, Return}
+use Rattle.bounds_plan.specs.steps.Code.{labels, code, labels_of, code_of}
+use Rattle.bounds_plan.specs.elaboration.Types.{Value, Numeric, Address, number_in, sort_of, given, kind_of}
+use Rattle.bounds_plan.specs.elaboration.Source.{Reached, Around, declared_at, bind_at, past_declaration, local_number}
+use Rattle.bounds_plan.specs.elaboration.Places.{Lvalue}
 use Rattle.c_types.specs.Types.{CType}
 use Rattle.c_check_rules.specs.declared.predeclared.Bind.{Bind}
-use Rattle.bounds_plan.specs.ElaborateExpressions.{Found, expression}
-use Rattle.bounds_plan.specs.ElaborateInitialisers.{Filling, initialiser}
-use Rattle.bounds_plan.specs.ElaborateStatements.{Stated, Done, Tested, in_order, maybe, done_by, tested_by, declared, past_counts, local_of, returned_by, all_stated, return_of}
+use Rattle.bounds_plan.specs.elaboration.Expressions.{Found, expression}
+use Rattle.bounds_plan.specs.elaboration.Initialisers.{Filling, initialiser}
+use Rattle.bounds_plan.specs.elaboration.Statements.{Stated, Done, Tested, in_order, maybe, done_by, tested_by, declared, past_counts, local_of, returned_by, all_stated, return_of}
 use Rattle.steps_facts.specs.declared.seen.Sorted.{Sorted}
 use Rattle.steps_facts.specs.Seen.{sorted, is_number}
 use Rattle.steps_pieces.specs.Wanted.{code_value, labels_value, code_given, labels_given, given_number}

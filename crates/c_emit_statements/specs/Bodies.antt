@@ -4,12 +4,12 @@ use Rattle.c_tree.specs.declared.tree.Expr.{Expr}
 use Rattle.c_tree.specs.declared.tree.Stmt.{Stmt}
 use Rattle.fat_ir.specs.declared.step.FatStep.{FatStep}
 use Rattle.fat_ir.specs.declared.step.FatStep.TheVariants as s
-use Rattle.bounds_plan.specs.Core.{NumberExpr, Statement}
-use Rattle.bounds_plan.specs.Code.{labels, code, labels_of, code_of}
-use Rattle.bounds_plan.specs.ElaborateSource.{Reached, Around}
-use Rattle.bounds_plan.specs.ElaborateExpressions.{effect_of, expression}
-use Rattle.bounds_plan.specs.ElaborateInitialisers.{initialiser}
-use Rattle.bounds_plan.specs.ElaborateStatements.{Stating, statement_by}
+use Rattle.bounds_plan.specs.meaning.Core.{NumberExpr, Statement}
+use Rattle.bounds_plan.specs.steps.Code.{labels, code, labels_of, code_of}
+use Rattle.bounds_plan.specs.elaboration.Source.{Reached, Around}
+use Rattle.bounds_plan.specs.elaboration.Expressions.{effect_of, expression}
+use Rattle.bounds_plan.specs.elaboration.Initialisers.{initialiser}
+use Rattle.bounds_plan.specs.elaboration.Statements.{Stating, statement_by}
 use Rattle.steps_facts.specs.declared.seen.Sorted.{Sorted}
 use Rattle.steps_facts.specs.declared.seen.Sorted.TheVariants as o
 use Rattle.steps_pieces.specs.Put.{Put, goes}

@@ -1,9 +1,9 @@
 //! Expressions as whole statements.
 
 ghost use Rattle.std.specs.Prelude.{◌≡◌, ◌+◌, ◌≤◌, ◌^◌, OnOk, IfOk, MatchOption, None};
-ghost use Rattle.bounds_plan.specs.ElaborateTypes.{sort_of};
-ghost use Rattle.bounds_plan.specs.ElaborateSource.{past_kind};
-ghost use Rattle.bounds_plan.specs.ElaborateExpressions.{expression, struct_copied};
+ghost use Rattle.bounds_plan.specs.elaboration.Types.{sort_of};
+ghost use Rattle.bounds_plan.specs.elaboration.Source.{past_kind};
+ghost use Rattle.bounds_plan.specs.elaboration.Expressions.{expression, struct_copied};
 ghost use Rattle.steps_facts.specs.declared.seen.Sorted.TheVariants as o;
 ghost use Rattle.steps_facts.specs.Seen.{sorted, reached_of};
 ghost use Rattle.steps_pieces.specs.Put.{put_of};
@@ -12,11 +12,11 @@ ghost use Rattle.c_emit_statements.specs.Bodies.{IsEvaluated, whole_sort};
 
 use c_emit::emit;
 use c_look::look;
-use c_tree::{Expr, ExprKind};
+use c_tree::{Expr, ExprKind, UnaryOp};
 use mx_base::OutOfMemory;
 use steps_facts::{Knows, Reached, Sorted};
 use steps_filling::put_copied;
-use steps_pieces::{Emitter, LAST, Single, put_single};
+use steps_pieces::{Emitter, LAST, put_single};
 
 /// The two sides of an assignment by `=`; any other expression is evaluated.
 fn sides(e: &Expr) -> Option<(&Expr, &Expr)>
@@ -80,7 +80,7 @@ fn copy_struct<K: Knows>(
     if array {
         return Err(OutOfMemory);
     }
-    let address = Single::AddressOf;
+    let address = UnaryOp::AddressOf;
     put_single(out, address, x, x.facts.sort, false, x.place, d)?;
     let y = emit(out, known, source, x.after, d + 2, true)?;
     put_single(out, address, y, y.facts.sort, false, y.place, d + 2)?;

@@ -1,10 +1,10 @@
 //! Declarations in a body.
 
 ghost use Rattle.std.specs.Prelude.{◌≡◌, OnOk, IfOk};
-ghost use Rattle.bounds_plan.specs.ElaborateSource.{local_number};
-ghost use Rattle.bounds_plan.specs.ElaborateExpressions.{expression};
-ghost use Rattle.bounds_plan.specs.ElaborateInitialisers.{initialiser};
-ghost use Rattle.bounds_plan.specs.ElaborateStatements.{maybe, declared, past_counts, local_of};
+ghost use Rattle.bounds_plan.specs.elaboration.Source.{local_number};
+ghost use Rattle.bounds_plan.specs.elaboration.Expressions.{expression};
+ghost use Rattle.bounds_plan.specs.elaboration.Initialisers.{initialiser};
+ghost use Rattle.bounds_plan.specs.elaboration.Statements.{maybe, declared, past_counts, local_of};
 ghost use Rattle.steps_facts.specs.Seen.{reached_of};
 ghost use Rattle.steps_facts.specs.Around.{standing_at};
 ghost use Rattle.steps_pieces.specs.Put.{put_of};

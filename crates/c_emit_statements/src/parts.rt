@@ -1,9 +1,9 @@
 //! Parts of statements that may be missing.
 
 ghost use Rattle.std.specs.Prelude.{◌≡◌, OnOk, IfOk};
-ghost use Rattle.bounds_plan.specs.ElaborateTypes.{number_in};
-ghost use Rattle.bounds_plan.specs.ElaborateExpressions.{expression};
-ghost use Rattle.bounds_plan.specs.ElaborateStatements.{maybe, done_by, tested_by, returned_by};
+ghost use Rattle.bounds_plan.specs.elaboration.Types.{number_in};
+ghost use Rattle.bounds_plan.specs.elaboration.Expressions.{expression};
+ghost use Rattle.bounds_plan.specs.elaboration.Statements.{maybe, done_by, tested_by, returned_by};
 ghost use Rattle.steps_facts.specs.Seen.{reached_of};
 ghost use Rattle.steps_pieces.specs.Put.{put_of};
 ghost use Rattle.steps_filling.specs.Effects.{went_effect};

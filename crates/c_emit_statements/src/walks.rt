@@ -1,7 +1,7 @@
 //! The walk over statements.
 
 ghost use Rattle.std.specs.Prelude.{◌≡◌, OnOk, IfOk, map};
-ghost use Rattle.bounds_plan.specs.ElaborateStatements.{all_stated};
+ghost use Rattle.bounds_plan.specs.elaboration.Statements.{all_stated};
 ghost use Rattle.steps_facts.specs.Seen.{reached_of};
 ghost use Rattle.steps_pieces.specs.Put.{put_of};
 ghost use Rattle.c_emit_statements.specs.Bodies.{statement, went_statement};

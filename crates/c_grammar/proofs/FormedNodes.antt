@@ -3,6 +3,9 @@ use Rattle.std.proofs.Common.{◌≡◌, ℕ, Bool, true, false, ◌&&◌, List,
 use Rattle.std.specs.List.{list_all}
 use Rattle.mx_base.specs.declared.places.Place.{Place}
 use Rattle.mx_base.specs.declared.numbers.IntKind.{IntKind}
+use Rattle.mx_base.specs.declared.operators.Arithmetic.{Arithmetic}
+use Rattle.c_tree.specs.declared.operators.BinaryOp.{BinaryOp}
+use Rattle.c_tree.specs.declared.operators.UnaryOp.{UnaryOp}
 use Rattle.c_tree.specs.declared.tree.Base.{Base}
 use Rattle.c_tree.specs.declared.tree.Decl.{Decl}
 use Rattle.c_tree.specs.declared.tree.Expr.{Expr, the_lemmas as expr_lemmas}
@@ -15,7 +18,7 @@ use Rattle.c_tree.specs.declared.tree.StmtKind.{StmtKind}
 use Rattle.c_tree.specs.declared.tree.StmtKind.TheVariants as s
 use Rattle.c_tree.specs.declared.tree.StmtKind.TheVariants.{outs-If}
 use Rattle.c_tree.specs.Names.{is_name}
-use Rattle.c_tree.specs.Formed.{stands, every, is_number, is_unary, is_binary, is_compound, few_stars, formed_base, formed_expr, maybe_expr, formed_decl, formed_init, maybe_init, Seen, is_branch, seen_stmt}
+use Rattle.c_tree.specs.Formed.{stands, every, is_number, few_stars, formed_base, formed_expr, maybe_expr, formed_decl, formed_init, maybe_init, Seen, is_branch, seen_stmt}
 
 abbrev at : Place → ExprKind → Expr
 at p k = record { place = p; kind = k }
@@ -29,13 +32,13 @@ text p bytes = search (rules, expr_lemmas)
 pub var : (p : Place) (name : List ℕ) → formed_expr (at p (e.Var name)) ≡ (stands p && is_name name)
 var p name = search (rules, expr_lemmas)
 
-pub unary : (p : Place) (op : ℕ) (a : Expr) → formed_expr (at p (e.Unary op a)) ≡ (stands p && (is_unary op && formed_expr a))
+pub unary : (p : Place) (op : UnaryOp) (a : Expr) → formed_expr (at p (e.Unary op a)) ≡ (stands p && formed_expr a)
 unary p op a = search (rules, expr_lemmas)
 
-pub binary : (p : Place) (op : ℕ) (a b : Expr) → formed_expr (at p (e.Binary op a b)) ≡ (stands p && (is_binary op && formed_expr a && formed_expr b))
+pub binary : (p : Place) (op : BinaryOp) (a b : Expr) → formed_expr (at p (e.Binary op a b)) ≡ (stands p && (formed_expr a && formed_expr b))
 binary p op a b = search (rules, expr_lemmas)
 
-pub assign : (p : Place) (op : Option ℕ) (a b : Expr) → formed_expr (at p (e.Assign op a b)) ≡ (stands p && (is_compound op && formed_expr a && formed_expr b))
+pub assign : (p : Place) (op : Option Arithmetic) (a b : Expr) → formed_expr (at p (e.Assign op a b)) ≡ (stands p && (formed_expr a && formed_expr b))
 assign p op a b = search (rules, expr_lemmas)
 
 pub step_by : (p : Place) (up before : Bool) (a : Expr) → formed_expr (at p (e.StepBy up before a)) ≡ (stands p && formed_expr a)

@@ -12,6 +12,7 @@ use Rattle.c_tokens.specs.declared.class.Class.TheVariants as k
 use Rattle.c_tokens.specs.declared.numbers.Number.{Number}
 use Rattle.c_tokens.specs.Numbers.{number_of}
 use Rattle.c_tokens.specs.Quotes.{text_of, character_of}
+use Rattle.c_tree.specs.declared.operators.UnaryOp.TheVariants as u
 use Rattle.c_tree.specs.declared.tree.Base.{Base}
 use Rattle.c_tree.specs.declared.tree.Base.TheVariants as b
 use Rattle.c_tree.specs.declared.tree.Decl.{Decl}
@@ -22,7 +23,7 @@ use Rattle.c_tree.specs.declared.tree.StmtKind.TheVariants as st
 use Rattle.c_tree.specs.declared.tree.Item.{Item}
 use Rattle.c_tree.specs.declared.tree.ItemKind.TheVariants as it
 use Rattle.c_tree.specs.Names.{is_name}
-use Rattle.c_tree.specs.Formed.{stands, every, is_binary, is_compound, few_stars, formed_base, formed_expr, maybe_expr, formed_decl, is_empty, formed_init, maybe_init, Seen, is_branch, maybe_branch, seen_stmt, without_counts, formed_body, formed_item}
+use Rattle.c_tree.specs.Formed.{stands, every, few_stars, formed_base, formed_expr, maybe_expr, formed_decl, is_empty, formed_init, maybe_init, Seen, is_branch, maybe_branch, seen_stmt, without_counts, formed_body, formed_item}
 use Rattle.c_grammar.specs.declared.parts.Mark.{Mark}
 use Rattle.c_grammar.specs.declared.parts.Named.{Named}
 use Rattle.c_grammar.specs.declared.parts.Operand.{Operand}
@@ -204,53 +205,20 @@ and4 {a = false} {b = b} {c = c} {d = d} p q r s = cc
 few : (stars : ℕ) → stars ≤ 255 → T (few_stars stars)
 few stars h = grind (arith, nat_tests, h)
 
-binary_op_ok : (c : Class) → T (is_binary (made.binary_op c))
-binary_op_ok k.Slash = refl
-binary_op_ok k.Percent = refl
-binary_op_ok k.Plus = refl
-binary_op_ok k.Minus = refl
-binary_op_ok k.ShiftLeft = refl
-binary_op_ok k.ShiftRight = refl
-binary_op_ok k.Less = refl
-binary_op_ok k.LessEqual = refl
-binary_op_ok k.Greater = refl
-binary_op_ok k.GreaterEqual = refl
-binary_op_ok k.EqualEqual = refl
-binary_op_ok k.NotEqual = refl
-binary_op_ok k.And = refl
-binary_op_ok k.Xor = refl
-binary_op_ok k.Or = refl
-binary_op_ok k.AndAnd = refl
-binary_op_ok k.OrOr = refl
-binary_op_ok _ = refl
-
-assign_op_ok : (c : Class) → T (is_compound (made.assign_op c))
-assign_op_ok k.PlusAssign = refl
-assign_op_ok k.MinusAssign = refl
-assign_op_ok k.StarAssign = refl
-assign_op_ok k.SlashAssign = refl
-assign_op_ok k.PercentAssign = refl
-assign_op_ok k.AndAssign = refl
-assign_op_ok k.OrAssign = refl
-assign_op_ok k.XorAssign = refl
-assign_op_ok k.ShiftLeftAssign = refl
-assign_op_ok k.ShiftRightAssign = refl
-assign_op_ok _ = refl
-
 prefix_ok : (p : Place) (c : Class) (a : Expr) → T (stands p) → T (formed_expr a) → T (formed_expr (record { place = p; kind = made.prefix_kind c a }))
-prefix_ok p k.Tilde a s f = node.unary p 1 a ∙ and2 s (and2 refl f)
-prefix_ok p k.Not a s f = node.unary p 2 a ∙ and2 s (and2 refl f)
-prefix_ok p k.Star a s f = node.unary p 3 a ∙ and2 s (and2 refl f)
-prefix_ok p k.And a s f = node.unary p 4 a ∙ and2 s (and2 refl f)
+prefix_ok p k.Tilde a s f = node.unary p u.BitNot a ∙ and2 s f
+prefix_ok p k.Not a s f = node.unary p u.Not a ∙ and2 s f
+prefix_ok p k.Star a s f = node.unary p u.Deref a ∙ and2 s f
+prefix_ok p k.And a s f = node.unary p u.AddressOf a ∙ and2 s f
 prefix_ok p k.PlusPlus a s f = node.step_by p true true a ∙ and2 s f
 prefix_ok p k.MinusMinus a s f = node.step_by p false true a ∙ and2 s f
-prefix_ok p _ a s f = node.unary p 0 a ∙ and2 s (and2 refl f)
+prefix_ok p _ a s f = node.unary p u.Neg a ∙ and2 s f
 
 joined_ok : (op : Mark) (a b : Operand) → Sides a → Sides b → Sides (made.joined op a b)
-joined_ok op a b x y = (x.0, node.binary a.start (made.binary_op op.class) a.tree b.tree ∙ and2 x.0 (and3 (binary_op_ok op.class) x.1 y.1))
+joined_ok op a b x y = (x.0, node.binary a.start (made.binary_op op.class) a.tree b.tree ∙ and2 x.0 (and2 x.1 y.1))
 
 assigned_ok : (op : Mark) (a b : Operand) → Sides a → Sides b → Sides (made.assigned op a b)
-assigned_ok op a b x y = (x.0, node.assign a.start (made.assign_op op.class) a.tree b.tree ∙ and2 x.0 (and3 (assign_op_ok op.class) x.1 y.1))
+assigned_ok op a b x y = (x.0, node.assign a.start (made.assign_op op.class) a.tree b.tree ∙ and2 x.0 (and2 x.1 y.1))
 
 chosen_ok : (a b c : Operand) → Sides a → Sides b → Sides c → Sides (made.chosen a b c)
 chosen_ok a b c x y z = (x.0, node.cond a.start a.tree b.tree c.tree ∙ and2 x.0 (and3 x.1 y.1 z.1))

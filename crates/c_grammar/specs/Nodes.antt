@@ -4,11 +4,18 @@ use Rattle.mx_base.specs.declared.places.Place.{Place}
 use Rattle.mx_base.specs.declared.numbers.IntKind.{IntKind}
 use Rattle.mx_base.specs.declared.numbers.IntKind.TheVariants.{I8, U8, I16, U16, I32, U32, I64, U64}
 use Rattle.mx_base.specs.Numbers.{extended}
+use Rattle.mx_base.specs.declared.operators.Arithmetic.{Arithmetic}
+use Rattle.mx_base.specs.declared.operators.Arithmetic.TheVariants.{Mul, Div, Rem, Add, Sub, Shl, Shr, BitAnd, BitXor, BitOr}
+use Rattle.mx_base.specs.declared.operators.Comparison.TheVariants.{Less, LessOrEqual, Greater, GreaterOrEqual, Equal, NotEqual}
 use Rattle.c_tokens.specs.declared.class.Class.{Class}
 use Rattle.c_tokens.specs.declared.class.Class.TheVariants as k
 use Rattle.c_tokens.specs.declared.numbers.Number.{Number}
 use Rattle.c_tokens.specs.Numbers.{number_of}
 use Rattle.c_tokens.specs.Quotes.{text_of, character_of}
+use Rattle.c_tree.specs.declared.operators.BinaryOp.{BinaryOp}
+use Rattle.c_tree.specs.declared.operators.BinaryOp.TheVariants as o
+use Rattle.c_tree.specs.declared.operators.Logical.TheVariants.{And, Or}
+use Rattle.c_tree.specs.declared.operators.UnaryOp.TheVariants.{Neg, BitNot, Not, Deref, AddressOf}
 use Rattle.c_tree.specs.declared.tree.Base.{Base}
 use Rattle.c_tree.specs.declared.tree.Decl.{Decl}
 use Rattle.c_tree.specs.declared.tree.Expr.{Expr}
@@ -96,49 +103,50 @@ kind_name typed stars = record { base = typed.base; stars = stars }
 
 -- ---- expressions
 
--- the place of an operator in the list of binary operators
-abbrev pub binary_op : Class → ℕ
-binary_op k.Slash = 1
-binary_op k.Percent = 2
-binary_op k.Plus = 3
-binary_op k.Minus = 4
-binary_op k.ShiftLeft = 5
-binary_op k.ShiftRight = 6
-binary_op k.Less = 7
-binary_op k.LessEqual = 8
-binary_op k.Greater = 9
-binary_op k.GreaterEqual = 10
-binary_op k.EqualEqual = 11
-binary_op k.NotEqual = 12
-binary_op k.And = 13
-binary_op k.Xor = 14
-binary_op k.Or = 15
-binary_op k.AndAnd = 16
-binary_op k.OrOr = 17
-binary_op _ = 0
+-- the operator of a token between two operands
+abbrev pub binary_op : Class → BinaryOp
+binary_op k.Slash = o.Arithmetic Div
+binary_op k.Percent = o.Arithmetic Rem
+binary_op k.Plus = o.Arithmetic Add
+binary_op k.Minus = o.Arithmetic Sub
+binary_op k.ShiftLeft = o.Arithmetic Shl
+binary_op k.ShiftRight = o.Arithmetic Shr
+binary_op k.Less = o.Comparison Less
+binary_op k.LessEqual = o.Comparison LessOrEqual
+binary_op k.Greater = o.Comparison Greater
+binary_op k.GreaterEqual = o.Comparison GreaterOrEqual
+binary_op k.EqualEqual = o.Comparison Equal
+binary_op k.NotEqual = o.Comparison NotEqual
+binary_op k.And = o.Arithmetic BitAnd
+binary_op k.Xor = o.Arithmetic BitXor
+binary_op k.Or = o.Arithmetic BitOr
+binary_op k.AndAnd = o.Logical And
+binary_op k.OrOr = o.Logical Or
+binary_op _ = o.Arithmetic Mul
 
--- the place of a compound assignment in the list of assignments, where `=` is at 0
-abbrev pub assign_op : Class → Option ℕ
-assign_op k.PlusAssign = Some 1
-assign_op k.MinusAssign = Some 2
-assign_op k.StarAssign = Some 3
-assign_op k.SlashAssign = Some 4
-assign_op k.PercentAssign = Some 5
-assign_op k.AndAssign = Some 6
-assign_op k.OrAssign = Some 7
-assign_op k.XorAssign = Some 8
-assign_op k.ShiftLeftAssign = Some 9
-assign_op k.ShiftRightAssign = Some 10
+-- what a compound assignment calculates; `=` assigns and calculates nothing
+abbrev pub assign_op : Class → Option Arithmetic
+assign_op k.PlusAssign = Some Add
+assign_op k.MinusAssign = Some Sub
+assign_op k.StarAssign = Some Mul
+assign_op k.SlashAssign = Some Div
+assign_op k.PercentAssign = Some Rem
+assign_op k.AndAssign = Some BitAnd
+assign_op k.OrAssign = Some BitOr
+assign_op k.XorAssign = Some BitXor
+assign_op k.ShiftLeftAssign = Some Shl
+assign_op k.ShiftRightAssign = Some Shr
 assign_op _ = None
 
+-- what an operator before its operand makes of it
 abbrev pub prefix_kind : Class → Expr → ExprKind
-prefix_kind k.Tilde a = e.Unary 1 a
-prefix_kind k.Not a = e.Unary 2 a
-prefix_kind k.Star a = e.Unary 3 a
-prefix_kind k.And a = e.Unary 4 a
+prefix_kind k.Tilde a = e.Unary BitNot a
+prefix_kind k.Not a = e.Unary Not a
+prefix_kind k.Star a = e.Unary Deref a
+prefix_kind k.And a = e.Unary AddressOf a
 prefix_kind k.PlusPlus a = e.StepBy true true a
 prefix_kind k.MinusMinus a = e.StepBy false true a
-prefix_kind _ a = e.Unary 0 a
+prefix_kind _ a = e.Unary Neg a
 
 -- an operator before its operand
 abbrev pub prefixed : Mark → Operand → Operand

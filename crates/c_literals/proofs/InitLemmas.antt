@@ -3,7 +3,7 @@ use Rattle.std.proofs.Common.{◌≡◌, ℕ, zero, suc, ◌+◌, ◌-◌, ◌<�
 use Rattle.std.proofs.Math.Seq.{drop-cons}
 use Rattle.c_tree.specs.declared.tree.Init.{Init}
 use Rattle.c_types.specs.Types.{CType, Types, type_at}
-use Rattle.bounds_plan.specs.ElaborateSource.{Around}
+use Rattle.bounds_plan.specs.elaboration.Source.{Around}
 use Rattle.c_accepted.specs.SourceLiterals.{init_sizes, elements_sizes, members_sizes}
 use Rattle.steps_facts.specs.declared.knows.Part.{Part}
 use Rattle.steps_facts.specs.Around.{part_types, part_offsets}

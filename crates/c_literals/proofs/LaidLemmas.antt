@@ -4,6 +4,9 @@ use Rattle.std.proofs.lemmas.Option.{none-some}
 use Rattle.std.proofs.lemmas.List.{length-append}
 use Rattle.std.proofs.Math.Seq.{drop-cons}
 use Rattle.mx_base.specs.declared.places.Place.{Place}
+use Rattle.mx_base.specs.declared.operators.Arithmetic.{Arithmetic}
+use Rattle.c_tree.specs.declared.operators.UnaryOp.{UnaryOp}
+use Rattle.c_tree.specs.declared.operators.BinaryOp.{BinaryOp}
 use Rattle.c_tree.specs.declared.tree.Expr.{Expr, the_lemmas}
 use Rattle.c_tree.specs.declared.tree.ExprKind.{ExprKind}
 use Rattle.c_tree.specs.declared.tree.ExprKind.TheVariants as v
@@ -24,11 +27,11 @@ by_kind : (x : Expr) (k : ExprKind) → x.kind ≡ k → text_sizes x ≡ sizes_
 unfolding sizes_at
 by_kind x k is = ap (λ (z : ExprKind). sizes_at x.place z) is
 
-binary_at : (p : Place) (op : ℕ) (a b : Expr) → sizes_at p (v.Binary op a b) ≡ text_sizes a ++ text_sizes b
+binary_at : (p : Place) (op : BinaryOp) (a b : Expr) → sizes_at p (v.Binary op a b) ≡ text_sizes a ++ text_sizes b
 unfolding sizes_at
 binary_at p op a b = search (rules, the_lemmas)
 
-assign_at : (p : Place) (op : Option ℕ) (a b : Expr) → sizes_at p (v.Assign op a b) ≡ text_sizes a ++ text_sizes b
+assign_at : (p : Place) (op : Option Arithmetic) (a b : Expr) → sizes_at p (v.Assign op a b) ≡ text_sizes a ++ text_sizes b
 unfolding sizes_at
 assign_at p op a b = search (rules, the_lemmas)
 
@@ -40,10 +43,10 @@ index_at : (p : Place) (a i : Expr) → sizes_at p (v.Index a i) ≡ text_sizes 
 unfolding sizes_at
 index_at p a i = search (rules, the_lemmas)
 
-pub binary_sizes : (x : Expr) (op : ℕ) (a b : Expr) → x.kind ≡ v.Binary op a b → text_sizes x ≡ text_sizes a ++ text_sizes b
+pub binary_sizes : (x : Expr) (op : BinaryOp) (a b : Expr) → x.kind ≡ v.Binary op a b → text_sizes x ≡ text_sizes a ++ text_sizes b
 binary_sizes x op a b is = by_kind x (v.Binary op a b) is ∙ binary_at x.place op a b
 
-pub assign_sizes : (x : Expr) (op : Option ℕ) (a b : Expr) → x.kind ≡ v.Assign op a b → text_sizes x ≡ text_sizes a ++ text_sizes b
+pub assign_sizes : (x : Expr) (op : Option Arithmetic) (a b : Expr) → x.kind ≡ v.Assign op a b → text_sizes x ≡ text_sizes a ++ text_sizes b
 assign_sizes x op a b is = by_kind x (v.Assign op a b) is ∙ assign_at x.place op a b
 
 pub cond_sizes : (x : Expr) (test a b : Expr) → x.kind ≡ v.Cond test a b → text_sizes x ≡ text_sizes test ++ (text_sizes a ++ text_sizes b)

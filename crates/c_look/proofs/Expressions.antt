@@ -3,13 +3,16 @@ use Rattle.std.proofs.Common.{◌≡◌, ℕ, Bool, Option, List, map, ap, ◌�
 use Rattle.mx_base.specs.declared.places.Place.{Place}
 use Rattle.mx_base.specs.declared.numbers.IntKind.{IntKind}
 use Rattle.c_tree.specs.declared.tree.Base.{Base}
+use Rattle.mx_base.specs.declared.operators.Arithmetic.{Arithmetic}
+use Rattle.c_tree.specs.declared.operators.UnaryOp.{UnaryOp}
+use Rattle.c_tree.specs.declared.operators.BinaryOp.{BinaryOp}
 use Rattle.c_tree.specs.declared.tree.Expr.{Expr, the_lemmas}
 use Rattle.c_tree.specs.declared.tree.ExprKind.{ExprKind}
 use Rattle.c_tree.specs.declared.tree.ExprKind.TheVariants as v
-use Rattle.bounds_plan.specs.Core.{Word}
-use Rattle.bounds_plan.specs.ElaborateTypes.{Numeric, sort_of, cast_to}
-use Rattle.bounds_plan.specs.ElaborateSource.{Reached, Around, kind_at, bind_at, past_kind, past_name}
-use Rattle.bounds_plan.specs.ElaborateExpressions.{Found, no_place, a_place, literal, named, unary, binary, assign_by, stepped_by, chosen_as, find_all, called, index, member, arrow, size_word, starred, based, without_literals, expression}
+use Rattle.bounds_plan.specs.meaning.Core.{Word}
+use Rattle.bounds_plan.specs.elaboration.Types.{Numeric, sort_of, cast_to}
+use Rattle.bounds_plan.specs.elaboration.Source.{Reached, Around, kind_at, bind_at, past_kind, past_name}
+use Rattle.bounds_plan.specs.elaboration.Expressions.{Found, no_place, a_place, literal, named, unary, binary, assign_by, stepped_by, chosen_as, find_all, called, index, member, arrow, size_word, starred, based, without_literals, expression}
 
 -- an expression of a kind
 whole : Place → ExprKind → Around → Reached → Found
@@ -31,16 +34,16 @@ name_at : (p : Place) (name : List ℕ) (around : Around) (r : Reached) → whol
 unfolding whole
 name_at p name around r = search (rules, the_lemmas)
 
-unary_at : (p : Place) (op : ℕ) (a : Expr) (around : Around) (r : Reached) → let x = expression a around r in whole p (v.Unary op a) around r ≡ unary op (kind_at around x.after) x p (past_kind x.after)
+unary_at : (p : Place) (op : UnaryOp) (a : Expr) (around : Around) (r : Reached) → let x = expression a around r in whole p (v.Unary op a) around r ≡ unary op (kind_at around x.after) x p (past_kind x.after)
 unfolding whole
 unary_at p op a around r = search (rules, the_lemmas)
 
-binary_at : (p : Place) (op : ℕ) (a b : Expr) (around : Around) (r : Reached) → let x = expression a around r in let y = expression b around x.after in
+binary_at : (p : Place) (op : BinaryOp) (a b : Expr) (around : Around) (r : Reached) → let x = expression a around r in let y = expression b around x.after in
     whole p (v.Binary op a b) around r ≡ no_place (kind_at around y.after) (binary op around x y) p (past_kind y.after)
 unfolding whole
 binary_at p op a b around r = search (rules, the_lemmas)
 
-assign_at : (p : Place) (op : Option ℕ) (a b : Expr) (around : Around) (r : Reached) → let x = expression a around r in let y = expression b around x.after in
+assign_at : (p : Place) (op : Option Arithmetic) (a b : Expr) (around : Around) (r : Reached) → let x = expression a around r in let y = expression b around x.after in
     whole p (v.Assign op a b) around r ≡ assign_by op around x y p (past_kind y.after)
 unfolding whole
 assign_at p op a b around r = search (rules, the_lemmas)
@@ -99,14 +102,14 @@ is_text e bytes around r is = by_kind e (v.Text bytes) around r _ is (text_at e.
 pub is_name : (e : Expr) (name : List ℕ) (around : Around) (r : Reached) → e.kind ≡ v.Var name → expression e around r ≡ named around (kind_at around r) (bind_at around r) e.place (past_name (past_kind r))
 is_name e name around r is = by_kind e (v.Var name) around r _ is (name_at e.place name around r)
 
-pub is_unary : (e : Expr) (op : ℕ) (a : Expr) (around : Around) (r : Reached) → e.kind ≡ v.Unary op a → let x = expression a around r in expression e around r ≡ unary op (kind_at around x.after) x e.place (past_kind x.after)
+pub is_unary : (e : Expr) (op : UnaryOp) (a : Expr) (around : Around) (r : Reached) → e.kind ≡ v.Unary op a → let x = expression a around r in expression e around r ≡ unary op (kind_at around x.after) x e.place (past_kind x.after)
 is_unary e op a around r is = by_kind e (v.Unary op a) around r _ is (unary_at e.place op a around r)
 
-pub is_binary : (e : Expr) (op : ℕ) (a b : Expr) (around : Around) (r : Reached) → e.kind ≡ v.Binary op a b → let x = expression a around r in let y = expression b around x.after in
+pub is_binary : (e : Expr) (op : BinaryOp) (a b : Expr) (around : Around) (r : Reached) → e.kind ≡ v.Binary op a b → let x = expression a around r in let y = expression b around x.after in
     expression e around r ≡ no_place (kind_at around y.after) (binary op around x y) e.place (past_kind y.after)
 is_binary e op a b around r is = by_kind e (v.Binary op a b) around r _ is (binary_at e.place op a b around r)
 
-pub is_assign : (e : Expr) (op : Option ℕ) (a b : Expr) (around : Around) (r : Reached) → e.kind ≡ v.Assign op a b → let x = expression a around r in let y = expression b around x.after in
+pub is_assign : (e : Expr) (op : Option Arithmetic) (a b : Expr) (around : Around) (r : Reached) → e.kind ≡ v.Assign op a b → let x = expression a around r in let y = expression b around x.after in
     expression e around r ≡ assign_by op around x y e.place (past_kind y.after)
 is_assign e op a b around r is = by_kind e (v.Assign op a b) around r _ is (assign_at e.place op a b around r)
 

@@ -3,6 +3,7 @@ use Rattle.std.proofs.Common.{◌≡◌, ℕ, Bool, true, false, Option, None, S
 use Rattle.std.specs.Prelude.{not, slice_index_or, IfOk}
 use Rattle.mx_base.specs.declared.numbers.IntKind.{IntKind}
 use Rattle.mx_base.specs.declared.numbers.IntKind.TheVariants.{I32}
+use Rattle.mx_base.specs.declared.operators.Arithmetic.{Arithmetic}
 use Rattle.mx_base.specs.declared.places.Place.{Place}
 use Rattle.c_types.specs.Types.{CType, StructType}
 use Rattle.c_tree.specs.declared.tree.Base.{Base}
@@ -10,20 +11,20 @@ use Rattle.c_tree.specs.declared.tree.Expr.{Expr}
 use Rattle.c_tree.specs.declared.tree.ExprKind.TheVariants as v
 use Rattle.c_check_rules.specs.declared.predeclared.Bind.{Bind}
 use Rattle.c_check_rules.specs.declared.predeclared.Bind.TheVariants.{Global, Local, Fun, Service, Builtin}
-use Rattle.bounds_plan.specs.Core.{Word, Object}
-use Rattle.bounds_plan.specs.ElaborateTypes.{Value, sort_of, kind_of, given, pointer_in, size_in, step_in, number_in}
-use Rattle.bounds_plan.specs.ElaboratePlaces.{Lvalue, InMemory, variable_of}
-use Rattle.bounds_plan.specs.ElaborateSource.{Reached, Around, kind_at, bind_at, past_kind, past_name}
-use Rattle.bounds_plan.specs.ElaborateExpressions.{Found, no_place, a_place, named, assign_by, assigned, compound_at, find_all, index, member, arrow, expression}
+use Rattle.bounds_plan.specs.meaning.Core.{Word, Object}
+use Rattle.bounds_plan.specs.elaboration.Types.{Value, sort_of, kind_of, given, pointer_in, size_in, step_in, number_in}
+use Rattle.bounds_plan.specs.elaboration.Places.{Lvalue, InMemory, variable_of}
+use Rattle.bounds_plan.specs.elaboration.Source.{Reached, Around, kind_at, bind_at, past_kind, past_name}
+use Rattle.bounds_plan.specs.elaboration.Expressions.{Found, no_place, a_place, named, unary, assign_by, assigned, find_all, index, member, arrow, expression}
 use Rattle.steps_facts.specs.declared.seen.Spot.TheVariants as sp
 use Rattle.steps_facts.specs.Seen.{SeenOf, facts_of, is_number, spot_of, seen_in}
-use Rattle.steps_pieces.specs.declared.operators.Joint.{Joint}
-use Rattle.steps_pieces.specs.declared.operators.Single.{Single}
-use Rattle.steps_pieces.specs.declared.operators.Single.TheVariants as u
-use Rattle.steps_pieces.specs.Operators.{single_at, joint_at, step_operator}
+use Rattle.c_tree.specs.declared.operators.UnaryOp.{UnaryOp}
+use Rattle.c_tree.specs.declared.operators.UnaryOp.TheVariants as u
+use Rattle.c_tree.specs.declared.operators.BinaryOp.{BinaryOp}
+use Rattle.steps_pieces.specs.Operators.{step_operator}
 use Rattle.c_look.specs.Looks.{value_seen, place_seen, value_at, text_seen, named_seen, name_seen, part_seen, single_seen, joint_seen, changed_seen, choice_seen, cast_seen, size_seen, call_seen}
 use Rattle.c_look.proofs.Expressions.{is_number as is_word, is_text, is_name, is_unary, is_binary, is_assign, is_step, is_cond, is_call, is_index, is_member, is_arrow, is_cast, is_size, is_sizeof}
-use Rattle.c_look.proofs.Values.{single, single_is, joined_is, read_number, written_number, changed_number, joined_number, chosen_number, cast_number, called_is_number}
+use Rattle.c_look.proofs.Values.{read_number, written_number, changed_number, binary_number, chosen_number, cast_number, called_is_number}
 
 placed : (structs : List StructType) (t : CType) (lv : Lvalue) (p : Place) (r : Reached) → seen_in structs (a_place t lv p r) ≡ place_seen (facts_of structs t) (spot_of lv) p r
 placed structs t lv p r = ap (λ (n : Bool). record { facts = facts_of structs t; number = n; spot = spot_of lv; place = p; after = r }) (read_number (sort_of t) lv p)
@@ -31,24 +32,24 @@ placed structs t lv p r = ap (λ (n : Bool). record { facts = facts_of structs t
 valued : (structs : List StructType) (t : CType) (x : Value) (n : Bool) (p : Place) (r : Reached) → is_number x ≡ n → seen_in structs (no_place t x p r) ≡ value_seen (facts_of structs t) n p r
 valued structs t x n p r h = ap (λ (z : Bool). value_seen (facts_of structs t) z p r) h
 
-seen_single : (around : Around) (op : Single) (t : CType) (a : Found) (p : Place) (r : Reached) → t ≡ kind_at around r → seen_in around.structs (single op t a p (past_kind r)) ≡ single_seen op around p r
-seen_single around u.Negative t a p r h = ap (λ (z : CType). value_seen (facts_of around.structs z) true p (past_kind r)) h
-seen_single around u.Inverse t a p r h = ap (λ (z : CType). value_seen (facts_of around.structs z) true p (past_kind r)) h
-seen_single around u.IsZero t a p r h = ap (λ (z : CType). value_seen (facts_of around.structs z) true p (past_kind r)) h
-seen_single around u.Pointed t a p r h = placed around.structs t (InMemory (pointer_in a.value)) p (past_kind r) ∙ ap (λ (z : CType). place_seen (facts_of around.structs z) sp.Memory p (past_kind r)) h
+seen_single : (around : Around) (op : UnaryOp) (t : CType) (a : Found) (p : Place) (r : Reached) → t ≡ kind_at around r → seen_in around.structs (unary op t a p (past_kind r)) ≡ single_seen op around p r
+seen_single around u.Neg t a p r h = ap (λ (z : CType). value_seen (facts_of around.structs z) true p (past_kind r)) h
+seen_single around u.BitNot t a p r h = ap (λ (z : CType). value_seen (facts_of around.structs z) true p (past_kind r)) h
+seen_single around u.Not t a p r h = ap (λ (z : CType). value_seen (facts_of around.structs z) true p (past_kind r)) h
+seen_single around u.Deref t a p r h = placed around.structs t (InMemory (pointer_in a.value)) p (past_kind r) ∙ ap (λ (z : CType). place_seen (facts_of around.structs z) sp.Memory p (past_kind r)) h
 seen_single around u.AddressOf t a p r h = ap (λ (z : CType). value_seen (facts_of around.structs z) false p (past_kind r)) h
 
 seen_name : (around : Around) (t : CType) (b : Bind) (p : Place) (r : Reached) → seen_in around.structs (named around t b p r) ≡ named_seen around (facts_of around.structs t) b p r
 seen_name around t (Global number) p r = placed around.structs t (InMemory (Object (slice_index_or around.layout.globals number 0) 0 (size_in around.structs t))) p r
 seen_name around t (Local number) p r = placed around.structs t (variable_of around.structs around.variables around.stands 0 number) p r
 seen_name around t (Fun number) p r = refl
-seen_name around t (Service number) p r = refl
-seen_name around t (Builtin number) p r = refl
+seen_name around t (Service service) p r = refl
+seen_name around t (Builtin builtin) p r = refl
 
-seen_assigned : (op : Option ℕ) (around : Around) (a b : Found) (p : Place) (r : Reached) → seen_in around.structs (assign_by op around a b p (past_kind r)) ≡ changed_seen (seen_in around.structs a) p r
+seen_assigned : (op : Option Arithmetic) (around : Around) (a b : Found) (p : Place) (r : Reached) → seen_in around.structs (assign_by op around a b p (past_kind r)) ≡ changed_seen (seen_in around.structs a) p r
 seen_assigned None around a b p r = valued around.structs a.type (assigned a b) _ p (past_kind r) (written_number (sort_of a.type) a.lvalue a.place (given a.type b.type b.value))
 seen_assigned (Some op) around a b p r = valued around.structs a.type _ _ p (past_kind r)
-    (changed_number (kind_of a.type) (sort_of a.type) a.lvalue a.place (compound_at op) (kind_of b.type) (step_in around.structs a.type) (number_in b.value) false)
+    (changed_number (kind_of a.type) (sort_of a.type) a.lvalue a.place op (kind_of b.type) (step_in around.structs a.type) (number_in b.value) false)
 
 -- ---- by form
 
@@ -61,21 +62,20 @@ text_law e bytes around r s is h = h ∙ sym (ap (λ (f : Found). seen_in around
 pub name_law : (e : Expr) (name : List ℕ) (around : Around) (r : Reached) (s : SeenOf) → e.kind ≡ v.Var name → s ≡ name_seen around e.place r → s ≡ seen_in around.structs (expression e around r)
 name_law e name around r s is h = h ∙ sym (ap (λ (f : Found). seen_in around.structs f) (is_name e name around r is) ∙ seen_name around (kind_at around r) (bind_at around r) e.place (past_name (past_kind r)))
 
-pub single_law : (e : Expr) (op : ℕ) (a : Expr) (around : Around) (r : Reached) (one : Single) (x s : SeenOf) → e.kind ≡ v.Unary op a → one ≡ single_at op → x ≡ seen_in around.structs (expression a around r)
-    → s ≡ single_seen one around e.place x.after → s ≡ seen_in around.structs (expression e around r)
-single_law e op a around r one x s is ho hx h = let f = expression a around r in
-    h ∙ ap (λ (z : Single). single_seen z around e.place x.after) ho ∙ ap (λ (z : SeenOf). single_seen (single_at op) around e.place z.after) hx
-    ∙ sym (ap (λ (z : Found). seen_in around.structs z) (is_unary e op a around r is ∙ single_is op (kind_at around f.after) f e.place (past_kind f.after)) ∙ seen_single around (single_at op) (kind_at around f.after) f e.place f.after refl)
+pub single_law : (e : Expr) (op : UnaryOp) (a : Expr) (around : Around) (r : Reached) (x s : SeenOf) → e.kind ≡ v.Unary op a → x ≡ seen_in around.structs (expression a around r)
+    → s ≡ single_seen op around e.place x.after → s ≡ seen_in around.structs (expression e around r)
+single_law e op a around r x s is hx h = let f = expression a around r in
+    h ∙ ap (λ (z : SeenOf). single_seen op around e.place z.after) hx
+    ∙ sym (ap (λ (z : Found). seen_in around.structs z) (is_unary e op a around r is) ∙ seen_single around op (kind_at around f.after) f e.place f.after refl)
 
-pub joint_law : (e : Expr) (op : ℕ) (a b : Expr) (around : Around) (r : Reached) (joint : Joint) (x y s : SeenOf) → e.kind ≡ v.Binary op a b → joint ≡ joint_at op → x ≡ seen_in around.structs (expression a around r)
-    → y ≡ seen_in around.structs (expression b around x.after) → s ≡ joint_seen joint around x y e.place → s ≡ seen_in around.structs (expression e around r)
-joint_law e op a b around r joint x y s is hj hx hy h = let J = joint_at op in let f = expression a around r in let g = expression b around f.after in
-    h ∙ ap (λ (j : Joint). joint_seen j around x y e.place) hj
-    ∙ ap (λ (z : SeenOf). joint_seen J around x z e.place) hy ∙ ap (λ (z : SeenOf). joint_seen J around z (seen_in around.structs (expression b around z.after)) e.place) hx
+pub joint_law : (e : Expr) (op : BinaryOp) (a b : Expr) (around : Around) (r : Reached) (x y s : SeenOf) → e.kind ≡ v.Binary op a b → x ≡ seen_in around.structs (expression a around r)
+    → y ≡ seen_in around.structs (expression b around x.after) → s ≡ joint_seen op around x y e.place → s ≡ seen_in around.structs (expression e around r)
+joint_law e op a b around r x y s is hx hy h = let f = expression a around r in let g = expression b around f.after in
+    h ∙ ap (λ (z : SeenOf). joint_seen op around x z e.place) hy ∙ ap (λ (z : SeenOf). joint_seen op around z (seen_in around.structs (expression b around z.after)) e.place) hx
     ∙ sym (ap (λ (z : Found). seen_in around.structs z) (is_binary e op a b around r is)
-    ∙ valued around.structs (kind_at around g.after) _ _ e.place (past_kind g.after) (ap (λ (z : Value). is_number z) (joined_is op around f g) ∙ joined_number J around f g))
+    ∙ valued around.structs (kind_at around g.after) _ _ e.place (past_kind g.after) (binary_number op around f g))
 
-pub assign_law : (e : Expr) (op : Option ℕ) (a b : Expr) (around : Around) (r : Reached) (x y s : SeenOf) → e.kind ≡ v.Assign op a b → x ≡ seen_in around.structs (expression a around r) → y ≡ seen_in around.structs (expression b around x.after)
+pub assign_law : (e : Expr) (op : Option Arithmetic) (a b : Expr) (around : Around) (r : Reached) (x y s : SeenOf) → e.kind ≡ v.Assign op a b → x ≡ seen_in around.structs (expression a around r) → y ≡ seen_in around.structs (expression b around x.after)
     → s ≡ changed_seen x e.place y.after → s ≡ seen_in around.structs (expression e around r)
 assign_law e op a b around r x y s is hx hy h = let f = expression a around r in let g = expression b around f.after in
     h ∙ ap (λ (z : SeenOf). changed_seen x e.place z.after) hy ∙ ap (λ (z : SeenOf). changed_seen z e.place (expression b around z.after).after) hx

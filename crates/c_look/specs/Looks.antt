@@ -5,9 +5,9 @@ use Rattle.mx_base.specs.declared.services.CService.{CService}
 use Rattle.mx_base.specs.declared.services.CService.TheVariants as in_c
 use Rattle.c_check_rules.specs.declared.predeclared.Bind.{Bind}
 use Rattle.c_check_rules.specs.declared.predeclared.Bind.TheVariants.{Global, Local, Fun, Service, Builtin}
-use Rattle.bounds_plan.specs.ElaboratePlaces.{variable_of}
-use Rattle.bounds_plan.specs.ElaborateSource.{Reached, Around, kind_at, bind_at, past_kind, past_name, past_literal}
-use Rattle.bounds_plan.specs.ElaborateExpressions.{without_literals}
+use Rattle.bounds_plan.specs.elaboration.Places.{variable_of}
+use Rattle.bounds_plan.specs.elaboration.Source.{Reached, Around, kind_at, bind_at, past_kind, past_name, past_literal}
+use Rattle.bounds_plan.specs.elaboration.Expressions.{without_literals}
 use Rattle.steps_facts.specs.declared.seen.Facts.{Facts}
 use Rattle.steps_facts.specs.declared.seen.Sorted.{Sorted}
 use Rattle.steps_facts.specs.declared.seen.Sorted.TheVariants as o
@@ -16,10 +16,10 @@ use Rattle.steps_facts.specs.declared.seen.Spot.TheVariants as p
 use Rattle.steps_facts.specs.Seen.{SeenOf, facts_of, spot_of}
 use Rattle.steps_facts.specs.declared.knows.Standing.{Standing}
 use Rattle.steps_facts.specs.Around.{parameters_at, standing_at}
-use Rattle.steps_pieces.specs.declared.operators.Joint.{Joint}
-use Rattle.steps_pieces.specs.declared.operators.Single.{Single}
-use Rattle.steps_pieces.specs.declared.operators.Single.TheVariants as u
-use Rattle.steps_pieces.specs.Operators.{gives_number, service_at}
+use Rattle.c_tree.specs.declared.operators.UnaryOp.{UnaryOp}
+use Rattle.c_tree.specs.declared.operators.UnaryOp.TheVariants as u
+use Rattle.c_tree.specs.declared.operators.BinaryOp.{BinaryOp}
+use Rattle.steps_pieces.specs.Operators.{gives_number}
 use Rattle.steps_pieces.specs.Wanted.{loads_number, reads_number, given_number}
 
 -- what is asked of the type of the next expression
@@ -47,8 +47,8 @@ named_seen around facts (Global number) place after = place_seen facts p.Memory 
 named_seen around facts (Local number) place after =
     place_seen facts (spot_of (variable_of around.structs around.variables around.stands 0 number)) place after
 named_seen around facts (Fun number) place after = value_seen facts false place after
-named_seen around facts (Service number) place after = value_seen facts true place after
-named_seen around facts (Builtin number) place after = value_seen facts true place after
+named_seen around facts (Service service) place after = value_seen facts true place after
+named_seen around facts (Builtin builtin) place after = value_seen facts true place after
 
 abbrev pub name_seen : Around → Place → Reached → SeenOf
 name_seen around place r = named_seen around (facts_at around r) (bind_at around r) place (past_name (past_kind r))
@@ -61,14 +61,14 @@ spot_at at = spot_of (standing_at at)
 abbrev pub part_seen : Around → Place → Reached → SeenOf
 part_seen around place r = place_seen (facts_at around r) p.Memory place (past_kind r)
 
-abbrev pub single_seen : Single → Around → Place → Reached → SeenOf
-single_seen u.Negative around place r = value_at around true place r
-single_seen u.Inverse around place r = value_at around true place r
-single_seen u.IsZero around place r = value_at around true place r
-single_seen u.Pointed around place r = part_seen around place r
+abbrev pub single_seen : UnaryOp → Around → Place → Reached → SeenOf
+single_seen u.Neg around place r = value_at around true place r
+single_seen u.BitNot around place r = value_at around true place r
+single_seen u.Not around place r = value_at around true place r
+single_seen u.Deref around place r = part_seen around place r
 single_seen u.AddressOf around place r = value_at around false place r
 
-abbrev pub joint_seen : Joint → Around → (x y : SeenOf) → Place → SeenOf
+abbrev pub joint_seen : BinaryOp → Around → (x y : SeenOf) → Place → SeenOf
 joint_seen joint around x y place = value_at around (gives_number joint x.number y.number) place y.after
 
 -- an assignment to the place x that is gone through up to r
@@ -108,8 +108,8 @@ service_number in_c.Exit = true
 
 abbrev pub called_number : Around → Sorted → Bind → Bool
 called_number around sort (Fun number) = function_number (parameters_at around number) sort
-called_number around sort (Service number) = service_number (service_at number)
-called_number around sort (Builtin number) = false
+called_number around sort (Service service) = service_number service
+called_number around sort (Builtin builtin) = false
 called_number around sort (Global number) = true
 called_number around sort (Local number) = true
 

@@ -1,7 +1,7 @@
 //! What is known of an expression before its steps are put down.
 
 ghost use Rattle.std.specs.Prelude.{◌≡◌, IfOk, map};
-ghost use Rattle.bounds_plan.specs.ElaborateExpressions.{expression, find_all};
+ghost use Rattle.bounds_plan.specs.elaboration.Expressions.{expression, find_all};
 ghost use Rattle.steps_facts.specs.Seen.{view_of, seen_in, reached_of};
 
 use crate::seen::{
@@ -11,7 +11,6 @@ use crate::seen::{
 use c_tree::{Expr, ExprKind};
 use mx_base::OutOfMemory;
 use steps_facts::{Knows, Reached, Seen};
-use steps_pieces::{joint_at, single_at};
 
 /// How far expressions one after another go.
 #[cycle(look)]
@@ -38,14 +37,14 @@ pub fn look<K: Knows>(known: &K, e: &Expr, r: Reached) -> Result<Seen, OutOfMemo
         ExprKind::Unary(op, a) => {
             let operand = a.get();
             let x = look(known, operand, r)?;
-            single_seen(known, single_at(*op), e.place, x.after)
+            single_seen(known, *op, e.place, x.after)
         }
         ExprKind::Binary(op, a, b) => {
             let left = a.get();
             let right = b.get();
             let x = look(known, left, r)?;
             let y = look(known, right, x.after)?;
-            joint_seen(known, joint_at(*op), x, y, e.place)
+            joint_seen(known, *op, x, y, e.place)
         }
         ExprKind::Assign(_, a, b) => {
             let target = a.get();

@@ -1,16 +1,15 @@
 //! What is seen of an expression by its form and what was seen of its parts. `place` is where the expression stands.
 
 ghost use Rattle.std.specs.Prelude.{◌≡◌, IfOk, true};
-ghost use Rattle.bounds_plan.specs.ElaborateSource.{kind_at, past_kind};
+ghost use Rattle.bounds_plan.specs.elaboration.Source.{kind_at, past_kind};
 ghost use Rattle.steps_facts.specs.Seen.{view_of, reached_of};
 ghost use Rattle.c_look.specs.Looks as spec;
 
 use c_check_rules::Bind;
+use c_tree::{BinaryOp, UnaryOp};
 use mx_base::{CService, OutOfMemory, Place};
 use steps_facts::{Facts, Knows, Reached, Seen, Sorted, Spot, Standing};
-use steps_pieces::{
-    Joint, Single, given_number, gives_number, loads_number, reads_number, service_at,
-};
+use steps_pieces::{given_number, gives_number, loads_number, reads_number};
 
 /// What is no place.
 fn value_seen(facts: Facts, number: bool, place: Place, after: Reached) -> Seen
@@ -115,23 +114,23 @@ pub fn part_seen<K: Knows>(known: &K, place: Place, r: Reached) -> Result<Seen, 
 /// An operator on one operand, which is gone through up to `r`.
 pub fn single_seen<K: Knows>(
     known: &K,
-    op: Single,
+    op: UnaryOp,
     place: Place,
     r: Reached,
 ) -> Result<Seen, OutOfMemory>
     ensures { IfOk result (λ s. view_of s ≡ spec.single_seen op (K.around known.now) place (reached_of r)) }
 {
     match op {
-        Single::Negative | Single::Inverse | Single::IsZero => value_at(known, true, place, r),
-        Single::Pointed => part_seen(known, place, r),
-        Single::AddressOf => value_at(known, false, place, r),
+        UnaryOp::Neg | UnaryOp::BitNot | UnaryOp::Not => value_at(known, true, place, r),
+        UnaryOp::Deref => part_seen(known, place, r),
+        UnaryOp::AddressOf => value_at(known, false, place, r),
     }
 }
 
 /// An operator on the operands `x` and `y`.
 pub fn joint_seen<K: Knows>(
     known: &K,
-    joint: Joint,
+    joint: BinaryOp,
     x: Seen,
     y: Seen,
     place: Place,
@@ -237,7 +236,7 @@ fn called_number<K: Knows>(known: &K, sort: Sorted, bind: Bind) -> Result<bool, 
             let _sorts = known.parameters(number)?;
             Ok(result_number(sort))
         }
-        Bind::Service(number) => Ok(service_number(service_at(number))),
+        Bind::Service(service) => Ok(service_number(service)),
         Bind::Builtin(_) => Ok(false),
         Bind::Global(_) | Bind::Local(_) => Ok(true),
     }

@@ -6,10 +6,10 @@ use Rattle.c_tree.specs.declared.tree.Init.{Init, the_lemmas}
 use Rattle.c_tree.specs.declared.tree.InitKind.{InitKind}
 use Rattle.c_tree.specs.declared.tree.InitKind.TheVariants as v
 use Rattle.c_types.specs.Types.{CType, Types, type_at}
-use Rattle.bounds_plan.specs.ElaboratePlaces.{Lvalue}
-use Rattle.bounds_plan.specs.ElaborateSource.{Reached, Around}
-use Rattle.bounds_plan.specs.ElaborateExpressions.{expression}
-use Rattle.bounds_plan.specs.ElaborateInitialisers.{members_filled, many_filled, initialiser}
+use Rattle.bounds_plan.specs.elaboration.Places.{Lvalue}
+use Rattle.bounds_plan.specs.elaboration.Source.{Reached, Around}
+use Rattle.bounds_plan.specs.elaboration.Expressions.{expression}
+use Rattle.bounds_plan.specs.elaboration.Initialisers.{members_filled, many_filled, initialiser}
 use Rattle.steps_facts.specs.declared.knows.Part.{Part}
 use Rattle.steps_facts.specs.Around.{part_types, part_offsets}
 

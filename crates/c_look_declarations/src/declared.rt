@@ -2,9 +2,9 @@
 
 ghost use Rattle.std.specs.Prelude.{◌≡◌, IfOk, All, map};
 ghost use Rattle.c_types.specs.Types.{type_at, IsIn};
-ghost use Rattle.bounds_plan.specs.ElaborateSource.{past_declaration, past_member};
-ghost use Rattle.bounds_plan.specs.ElaborateExpressions.{expression};
-ghost use Rattle.bounds_plan.specs.ElaborateFunctions.{declared_all};
+ghost use Rattle.bounds_plan.specs.elaboration.Source.{past_declaration, past_member};
+ghost use Rattle.bounds_plan.specs.elaboration.Expressions.{expression};
+ghost use Rattle.bounds_plan.specs.elaboration.Functions.{declared_all};
 ghost use Rattle.steps_facts.specs.Seen.{reached_of};
 ghost use Rattle.c_look_declarations.specs.Past.{past_by};
 

@@ -5,10 +5,10 @@ ghost use Rattle.mx_base.specs.declared.places.Place.{Place};
 ghost use Rattle.c_types.specs.declared.shape.TypeId.{TypeId as TypeNumber};
 ghost use Rattle.c_types.specs.Types.{CType, type_at, built, IsIn};
 ghost use Rattle.c_types.specs.Layouts.{CanBuild};
-ghost use Rattle.bounds_plan.specs.ElaboratePlaces.{Lvalue};
-ghost use Rattle.bounds_plan.specs.ElaborateExpressions.{expression};
-ghost use Rattle.bounds_plan.specs.ElaborateInitialisers.{initialiser, after_one, many_filled, elements_filled, members_filled};
-ghost use Rattle.bounds_plan.specs.ElaborateStatements as spec;
+ghost use Rattle.bounds_plan.specs.elaboration.Places.{Lvalue};
+ghost use Rattle.bounds_plan.specs.elaboration.Expressions.{expression};
+ghost use Rattle.bounds_plan.specs.elaboration.Initialisers.{initialiser, after_one, many_filled, elements_filled, members_filled};
+ghost use Rattle.bounds_plan.specs.elaboration.Statements as spec;
 ghost use Rattle.steps_facts.specs.Seen.{reached_of};
 ghost use Rattle.steps_facts.specs.Around.{part_types, part_offsets, IsPart};
 

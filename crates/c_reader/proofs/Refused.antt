@@ -12,7 +12,7 @@ use Rattle.c_grammar.proofs.Steps.{parse_steps}
 use Rattle.c_grammar.proofs.Whole as whole
 use Rattle.c_grammar.proofs.Deepest.{too_deep_found, too_deep_only}
 use Rattle.c_grammar.proofs.Sources.{one_bad, one_deep, bad_is_none}
-use Rattle.c_expressions.specs.At.{At}
+use Rattle.parse_expressions.specs.At.{At}
 use Rattle.c_reader.specs.declared.fault.ReadFault.TheVariants.{Expected, Deep}
 use Rattle.c_reader.specs.Refusals.{Shallow}
 

@@ -17,10 +17,10 @@ use Rattle.c_grammar.specs.Nodes as made
 use Rattle.c_grammar.specs.Rules as n
 use Rattle.c_grammar.specs.Reading.{Out, Halt, and_then, take_tok, parse, steps, steps_of, steps_with, limit, begins}
 use Rattle.c_grammar.proofs.Steps.{parse_steps, fragment, then_ok, then_done}
-use Rattle.c_expressions.specs.Gives.{through}
+use Rattle.parse_expressions.specs.Gives.{through}
 use Rattle.c_reader.specs.Pieces.{named_parameter, named_parameters, enclosed_parameters, function, braced_members, ended_members, named_item, globals, external}
-use Rattle.c_statements.proofs.Lists.{globals_begin, after_comma, comma_read, comma_fails, comma_wants, comma_then}
-use Rattle.c_statements.proofs.Joined.{from_none, push_more, push_stop, push_none, append_more, append_stop, append_none}
+use Rattle.parse_statements.proofs.Lists.{globals_begin, after_comma, comma_read, comma_fails, comma_wants, comma_then}
+use Rattle.parse_statements.proofs.Joined.{from_none, push_more, push_stop, push_none, append_more, append_stop, append_none}
 
 if_first : {A : Type 0} (b : Bool) (x y z : A) → x ≡ y → (if b then x else z) ≡ (if b then y else z)
 if_first b x y z e = ap (λ w. if b then w else z) e

@@ -15,7 +15,7 @@ use Rattle.c_grammar.specs.Rules as n
 use Rattle.c_grammar.specs.Rules.{Rx, call}
 use Rattle.c_grammar.specs.Grammar.{◌~◌, ◌=>◌, mark, name, bracketed}
 use Rattle.c_grammar.specs.Reading.{Out, and_then, take_tok, parse, limit}
-use Rattle.c_statements.specs.Names.{globals_after}
+use Rattle.parse_statements.specs.Names.{globals_after}
 
 -- a parameter after its first part
 abbrev pub named_parameter : Typed → Rx Decl

@@ -5,16 +5,16 @@ ghost use Rattle.c_grammar.specs.Lexemes.{among};
 ghost use Rattle.c_grammar.specs.Nodes as made;
 ghost use Rattle.c_grammar.specs.Reading.{parse, steps_of, begins, limit};
 ghost use Rattle.c_grammar.specs.Rules as n;
-ghost use Rattle.c_expressions.specs.Gives.{Gives, Makes, through};
+ghost use Rattle.parse_expressions.specs.Gives.{Gives, Makes, through};
 ghost use Rattle.c_reader.specs.Pieces as pieces;
 
 use crate::parameters::enclosed_parameters;
-use c_expressions::{Fault, Parser, begins_type, same_class};
 use c_grammar::{Declarator, InitDeclarator, Named, Typed};
-use c_statements::{block, counts, initialised, maybe_init, members, more_globals};
 use c_tokens::Class;
 use c_tree::{Base, Decl, Item, ItemKind, Stmt};
 use mx_base::Place;
+use parse_expressions::{Fault, Parser, begins_type, same_class};
+use parse_statements::{block, counts, initialised, maybe_init, members, more_globals};
 use sqlite_items::Items;
 use std::alloc::Global;
 

@@ -4,14 +4,14 @@ ghost use Rattle.std.specs.Prelude.{◌≡◌, ◌<◌, ◌≤◌, length, IfOk}
 ghost use Rattle.c_grammar.specs.Nodes as made;
 ghost use Rattle.c_grammar.specs.Reading.{parse, steps_of, limit};
 ghost use Rattle.c_grammar.specs.Rules as n;
-ghost use Rattle.c_expressions.specs.Gives.{Gives, through};
+ghost use Rattle.parse_expressions.specs.Gives.{Gives, through};
 ghost use Rattle.c_reader.specs.Pieces as pieces;
 
-use c_expressions::{Fault, Parser};
 use c_grammar::Typed;
 use c_tokens::Class;
 use c_tree::{Base, Decl};
 use mx_base::Place;
+use parse_expressions::{Fault, Parser};
 use sqlite_items::Items;
 
 /// A parameter whose first part was read.

@@ -14,10 +14,10 @@ ghost use Rattle.c_reader.specs.declared.fault.ReadFault.TheVariants as fault;
 
 use crate::fault::ReadFault;
 use crate::items::items;
-use c_expressions::{Fault, Parser};
 use c_tokens::Token;
 use c_tree::Tree;
 use mx_base::Place;
+use parse_expressions::{Fault, Parser};
 use std::alloc::Global;
 
 /// The place after a byte that stands at a place.

@@ -2,7 +2,7 @@
 
 use c_tree::{
     Base, Bytes, Decl, Expr, ExprKind, Init, InitKind, Item, ItemKind, Name, Stmt, StmtKind, Tree,
-    nodes,
+    UnaryOp, nodes,
 };
 use mx_base::{IntKind, Place};
 use sqlite_items::{Boxed, Items};
@@ -41,7 +41,7 @@ fn decl(alloc: Global) -> Result<Decl, AllocError> {
 fn negated(alloc: Global, times: u32) -> Result<Expr, AllocError> {
     let mut value = expr(ExprKind::Var(name(alloc)?));
     for _ in 0..times {
-        value = expr(ExprKind::Unary(0, Boxed::new(alloc, value)?));
+        value = expr(ExprKind::Unary(UnaryOp::Neg, Boxed::new(alloc, value)?));
     }
     Ok(value)
 }

@@ -87,9 +87,9 @@ exprs_few : (y : ExprKind-F Tested Tested) → Few (exprs_formed y) (exprs_stars
 exprs_few (e.Number n kind) = none _
 exprs_few (e.Text bytes) = none _
 exprs_few (e.Var name) = none _
-exprs_few (e.Unary op a) = second _ a.formed a.stars a.few
-exprs_few (e.Binary op a c) = both _ c.formed a.stars c.stars (second _ a.formed a.stars a.few) c.few
-exprs_few (e.Assign op a c) = both _ c.formed a.stars c.stars (second _ a.formed a.stars a.few) c.few
+exprs_few (e.Unary op a) = a.few
+exprs_few (e.Binary op a c) = both a.formed c.formed a.stars c.stars a.few c.few
+exprs_few (e.Assign op a c) = both a.formed c.formed a.stars c.stars a.few c.few
 exprs_few (e.StepBy up before a) = a.few
 exprs_few (e.Cond a c d) = three a.formed c.formed d.formed a.stars c.stars d.stars a.few c.few d.few
 exprs_few (e.Call name all) = second _ _ _ (every_few all)

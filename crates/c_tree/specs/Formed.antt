@@ -1,6 +1,6 @@
--- Which trees are formed: each node has the parts that the grammar gives it. Every number of an operator is a place in its list, every name is a
--- name of the language, every number is the word of its type, every type has at most 255 stars, and every line and column is at least 1.
-use Rattle.std.specs.Prelude.{◌≡◌, ℕ, Bool, true, false, ◌&&◌, ◌==◌, not, nat_le, nat_lt, List, [], ◌∷◌, Option, Some, None}
+-- Which trees are formed: each node has the parts that the grammar gives it. Every name is a name of the language, every number is the word of its
+-- type, every type has at most 255 stars, and every line and column is at least 1.
+use Rattle.std.specs.Prelude.{◌≡◌, ℕ, Bool, true, false, ◌&&◌, ◌==◌, not, nat_le, List, [], ◌∷◌, Option, Some, None}
 use Rattle.std.specs.List.{list_all}
 use Rattle.mx_base.specs.declared.places.Place.{Place}
 use Rattle.mx_base.specs.declared.numbers.IntKind.{IntKind}
@@ -58,17 +58,6 @@ has_number_type U64 = true
 abbrev pub is_number : ℕ → IntKind → Bool
 is_number n kind = has_number_type kind && extended kind n == n
 
--- how many operators each list has; the last two of the unary ones are `++` and `--`, which make no `Unary`, and the first of the assignments is `=`
-abbrev pub is_unary : ℕ → Bool
-is_unary op = nat_lt op 5
-
-abbrev pub is_binary : ℕ → Bool
-is_binary op = nat_lt op 18
-
-abbrev pub is_compound : Option ℕ → Bool
-is_compound None = true
-is_compound (Some op) = nat_le 1 op && nat_le op 10
-
 -- a type that is written has at most 255 stars: in a declaration, a cast or a `sizeof`
 abbrev pub few_stars : ℕ → Bool
 few_stars stars = nat_le stars 255
@@ -84,9 +73,9 @@ abbrev pub expr_step : ExprKind-F Bool Bool → Bool
 expr_step (e.Number n kind) = is_number n kind
 expr_step (e.Text bytes) = true
 expr_step (e.Var name) = is_name name
-expr_step (e.Unary op a) = is_unary op && a
-expr_step (e.Binary op a c) = is_binary op && a && c
-expr_step (e.Assign op a c) = is_compound op && a && c
+expr_step (e.Unary op a) = a
+expr_step (e.Binary op a c) = a && c
+expr_step (e.Assign op a c) = a && c
 expr_step (e.StepBy up before a) = a
 expr_step (e.Cond a c d) = a && c && d
 expr_step (e.Call name all) = is_name name && every all

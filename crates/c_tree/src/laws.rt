@@ -1,10 +1,13 @@
 //! Laws of formed trees. The functions do nothing: their contracts are the laws.
 
-ghost use Rattle.std.specs.Prelude.{◌≡◌, ℕ, Bool, true, false, ◌&&◌, not, nat_le, nat_lt, List, [], Option, None, Some, codes};
+ghost use Rattle.std.specs.Prelude.{◌≡◌, ℕ, Bool, true, false, ◌&&◌, not, nat_le, List, [], Option, codes};
 ghost use Rattle.std.specs.Option.{option_map};
 ghost use Rattle.std.specs.List.{list_all};
 ghost use Rattle.mx_base.specs.declared.places.Place.{Place};
 ghost use Rattle.mx_base.specs.declared.numbers.IntKind.{IntKind};
+ghost use Rattle.mx_base.specs.declared.operators.Arithmetic.{Arithmetic};
+ghost use Rattle.c_tree.specs.declared.operators.UnaryOp.{UnaryOp};
+ghost use Rattle.c_tree.specs.declared.operators.BinaryOp.{BinaryOp};
 ghost use Rattle.c_tree.specs.declared.tree.Base.{Base};
 ghost use Rattle.c_tree.specs.declared.tree.Base.TheVariants.{Void};
 ghost use Rattle.c_tree.specs.declared.tree.Expr.{Expr};
@@ -21,12 +24,11 @@ ghost use Rattle.c_tree.specs.Formed.{formed_expr, formed_base, formed_decl, for
 ghost use Rattle.c_tree.specs.Names.{is_name};
 ghost use Rattle.mx_base.specs.declared.numbers.IntKind.TheVariants.{I8, U8, I16, U16, I32, U32, I64, U64};
 
-/// An operator of a formed tree is a place in its list, and its operands are formed: five unary ones, without `++` and `--`; eighteen of two
-/// operands; ten of compound assignment, of which the first has place 1.
-pub fn operators_are_of_their_lists()
-    ensures unary { (place : Place) (op : ℕ) (a : Expr) → formed_expr (record { place = place; kind = v.Unary op a }) ≡ (stands place && (nat_lt op 5 && formed_expr a)) }
-    ensures binary { (place : Place) (op : ℕ) (a b : Expr) → formed_expr (record { place = place; kind = v.Binary op a b }) ≡ (stands place && (nat_lt op 18 && formed_expr a && formed_expr b)) }
-    ensures compound { (place : Place) (op : ℕ) (a b : Expr) → formed_expr (record { place = place; kind = v.Assign (Some op) a b }) ≡ (stands place && ((nat_le 1 op && nat_le op 10) && formed_expr a && formed_expr b)) }
+/// The operands of each operator of a formed tree are formed.
+pub fn operators_have_formed_operands()
+    ensures unary { (place : Place) (op : UnaryOp) (a : Expr) → formed_expr (record { place = place; kind = v.Unary op a }) ≡ (stands place && formed_expr a) }
+    ensures binary { (place : Place) (op : BinaryOp) (a b : Expr) → formed_expr (record { place = place; kind = v.Binary op a b }) ≡ (stands place && (formed_expr a && formed_expr b)) }
+    ensures assign { (place : Place) (op : Option Arithmetic) (a b : Expr) → formed_expr (record { place = place; kind = v.Assign op a b }) ≡ (stands place && (formed_expr a && formed_expr b)) }
 {}
 
 /// A name of a formed tree is a name of the language, a number is the word of its type, and a cast has at most 255 stars.
@@ -68,7 +70,6 @@ pub fn braces_hold_a_part()
 /// Every other expression of a formed tree has formed parts, and so on to the leaves.
 pub fn expressions_have_formed_parts()
     ensures text { (place : Place) (bytes : List ℕ) → formed_expr (record { place = place; kind = v.Text bytes }) ≡ (stands place && true) }
-    ensures assign { (place : Place) (a b : Expr) → formed_expr (record { place = place; kind = v.Assign None a b }) ≡ (stands place && (true && formed_expr a && formed_expr b)) }
     ensures step_by { (place : Place) (up before : Bool) (a : Expr) → formed_expr (record { place = place; kind = v.StepBy up before a }) ≡ (stands place && formed_expr a) }
     ensures cond { (place : Place) (a b c : Expr) → formed_expr (record { place = place; kind = v.Cond a b c }) ≡ (stands place && (formed_expr a && formed_expr b && formed_expr c)) }
     ensures call { (place : Place) (name : List ℕ) (all : List Expr) → formed_expr (record { place = place; kind = v.Call name all }) ≡ (stands place && (is_name name && list_all formed_expr all)) }

@@ -2,7 +2,8 @@
 //! first token. Parentheses make no node.
 
 use crate::names::{Bytes, Name};
-use mx_base::{IntKind, Place};
+use crate::operators::{BinaryOp, UnaryOp};
+use mx_base::{Arithmetic, IntKind, Place};
 use sqlite_items::{Boxed, Items};
 
 /// A whole source.
@@ -87,7 +88,7 @@ pub enum StmtKind {
     Block(Items<Stmt>),
 }
 
-/// An expression. An operator is given by its place in its list, from 0.
+/// An expression.
 #[cycle(expr)]
 #[derive(Drop)]
 pub struct Expr {
@@ -102,12 +103,10 @@ pub enum ExprKind {
     Number(u64, IntKind),
     Text(Bytes),
     Var(Name),
-    /// `-`, `~`, `!`, `*`, `&`, by its place in this list.
-    Unary(u8, Boxed<Expr>),
-    /// `*`, `/`, `%`, `+`, `-`, `<<`, `>>`, `<`, `<=`, `>`, `>=`, `==`, `!=`, `&`, `^`, `|`, `&&`, `||`, by its place in this list.
-    Binary(u8, Boxed<Expr>, Boxed<Expr>),
-    /// `=`, or one of `+=`, `-=`, `*=`, `/=`, `%=`, `&=`, `|=`, `^=`, `<<=`, `>>=`, by its place in the list that begins with `=`.
-    Assign(Option<u8>, Boxed<Expr>, Boxed<Expr>),
+    Unary(UnaryOp, Boxed<Expr>),
+    Binary(BinaryOp, Boxed<Expr>, Boxed<Expr>),
+    /// `=`, or a compound assignment by what it calculates: `+=` has `Add`.
+    Assign(Option<Arithmetic>, Boxed<Expr>, Boxed<Expr>),
     /// `++` or `--`: whether it counts up, and whether it stands before its operand.
     StepBy(bool, bool, Boxed<Expr>),
     /// `?:`

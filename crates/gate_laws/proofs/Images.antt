@@ -6,9 +6,9 @@ use Rattle.mx_base.specs.StopOfC.{AccessOfC}
 use Rattle.mx_base.specs.World.{Log, world_at_start}
 use Rattle.obj_file.specs.Stored.{Stored}
 use Rattle.fat_ir.specs.Calls.{Outcome}
-use Rattle.bounds_plan.specs.Functions.{Linked, program_run}
-use Rattle.bounds_plan.specs.Compiled.{FitsProgram, all_compiled, parameters_of}
-use Rattle.bounds_plan.specs.Follows.{outcome_of}
+use Rattle.bounds_plan.specs.meaning.Functions.{Linked, program_run}
+use Rattle.bounds_plan.specs.steps.Compiled.{FitsProgram, all_compiled, parameters_of}
+use Rattle.bounds_plan.specs.steps.Follows.{outcome_of}
 use Rattle.call_sigs.specs.Signatures.{Signature}
 use Rattle.legacy_calls.specs.Legacy.{Linkage}
 use Rattle.legacy_calls.specs.OfC.{outside_of_c}

@@ -12,9 +12,9 @@ use Rattle.obj_file.specs.Machine.{event}
 use Rattle.obj_file.specs.Loaded.{configuration}
 use Rattle.obj_file.specs.Stored.{Stored, with_store, address_of_entry, megabyte_touched, stored_write, stored_load, stored_keep}
 use Rattle.obj_file.proofs.StoredBytes.{with_number_apart}
-use Rattle.bounds_plan.specs.State.{listed, with_made, with_cause}
-use Rattle.bounds_plan.specs.Outside.{made_and_kept}
-use Rattle.bounds_plan.specs.Laws.{LeftOutside}
+use Rattle.bounds_plan.specs.meaning.State.{listed, with_made, with_cause}
+use Rattle.bounds_plan.specs.meaning.Outside.{made_and_kept}
+use Rattle.bounds_plan.specs.laws.Laws.{LeftOutside}
 use Rattle.legacy_calls.specs.Legacy.{Linkage, ground}
 use Rattle.obj_file.specs.Beside.{Beside}
 use Rattle.legacy_calls.specs.Laws.{is_listed, Counted}

@@ -2,9 +2,9 @@
 use Rattle.std.proofs.Common.{◌≡◌, ℕ, length}
 use Rattle.mx_base.specs.World.{World, Log}
 use Rattle.fat_ir.specs.Functions.{calls as calls_by_steps, program_run as program_run_by_steps}
-use Rattle.bounds_plan.specs.Functions.{Linked, calls, program_run}
-use Rattle.bounds_plan.specs.Compiled.{FitsProgram, all_compiled, parameters_of}
-use Rattle.bounds_plan.specs.Follows.{outcome_of, DoesSame}
+use Rattle.bounds_plan.specs.meaning.Functions.{Linked, calls, program_run}
+use Rattle.bounds_plan.specs.steps.Compiled.{FitsProgram, all_compiled, parameters_of}
+use Rattle.bounds_plan.specs.steps.Follows.{outcome_of, DoesSame}
 use Rattle.bounds_plan.proofs.Calls.{calls_follow, programs_follow}
 use Rattle.legacy_calls.specs.Legacy.{Linkage, outside}
 use Rattle.legacy_calls.specs.OfC.{outside_of_c}

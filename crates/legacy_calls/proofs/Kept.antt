@@ -12,11 +12,11 @@ use Rattle.obj_file.specs.Machine.{Event, Goes, Stops as Halts, event}
 use Rattle.obj_file.specs.Stored.{Stored}
 use Rattle.fat_ir.specs.Values.{Value}
 use Rattle.fat_ir.specs.Calls.{with_turns}
-use Rattle.bounds_plan.specs.State.{with_made, with_cause}
-use Rattle.bounds_plan.specs.Expressions.{Answer, Comes, Stops, CalleeOfC}
-use Rattle.bounds_plan.specs.Functions.{turn_from}
-use Rattle.bounds_plan.specs.Follows.{value_of, values_of}
-use Rattle.bounds_plan.specs.Laws.{Relation, Leaves, LeftByCalls, LeftOutside}
+use Rattle.bounds_plan.specs.meaning.State.{with_made, with_cause}
+use Rattle.bounds_plan.specs.meaning.Expressions.{Answer, Comes, Stops, CalleeOfC}
+use Rattle.bounds_plan.specs.meaning.Functions.{turn_from}
+use Rattle.bounds_plan.specs.steps.Follows.{value_of, values_of}
+use Rattle.bounds_plan.specs.laws.Laws.{Relation, Leaves, LeftByCalls, LeftOutside}
 use Rattle.call_sigs.specs.Signatures.{Result, Nothing, Pointer, Of}
 use Rattle.legacy_calls.specs.Legacy.{Linkage, Foreign, from_state, at_entry, after_outer, far_of, entered_at, lent}
 use Rattle.obj_file.specs.Beside.{Beside, alone}

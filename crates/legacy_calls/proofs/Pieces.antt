@@ -6,7 +6,7 @@ use Rattle.x86_forms.specs.Watch.{landing}
 use Rattle.obj_file.specs.Machine.{Event, Goes, Stops, event}
 use Rattle.obj_file.specs.Stored.{Stored}
 use Rattle.fat_ir.proofs.Worlds.{elsewhere}
-use Rattle.bounds_plan.specs.Laws.{LeftOutside, OnlyWrites, InPieces, PieceOfC, EventOutside, Joined}
+use Rattle.bounds_plan.specs.laws.Laws.{LeftOutside, OnlyWrites, InPieces, PieceOfC, EventOutside, Joined}
 use Rattle.bounds_plan.proofs.Worlds.{only, no_access}
 use Rattle.legacy_calls.specs.Legacy.{Linkage, from_state}
 use Rattle.obj_file.specs.Beside.{Beside, alone}

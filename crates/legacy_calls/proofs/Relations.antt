@@ -9,7 +9,7 @@ use Rattle.mx_base.specs.World.{Log}
 use Rattle.x86_forms.specs.Processor.{rax}
 use Rattle.obj_file.specs.Machine.{Ground, State, asked, event}
 use Rattle.fat_ir.proofs.Worlds.{Begins, begins-same, begins-more}
-use Rattle.bounds_plan.specs.Laws.{LeftOutside, NoMoreTurns, OutputGrows, Judged}
+use Rattle.bounds_plan.specs.laws.Laws.{LeftOutside, NoMoreTurns, OutputGrows, Judged}
 use Rattle.bounds_plan.proofs.Worlds.{longer, longer-by-none, judged, no_access}
 use Rattle.legacy_calls.specs.Legacy.{Linkage, Foreign, ground}
 use Rattle.obj_file.specs.Keeping.{KeepsByRequests, KeepsByServices, EventLeaves}

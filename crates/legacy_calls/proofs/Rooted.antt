@@ -17,12 +17,12 @@ use Rattle.obj_file.specs.Stored.{Stored, with_store, address_of_entry, megabyte
 use Rattle.obj_file.specs.Loaded.{configuration}
 use Rattle.fat_ir.specs.Values.{Value}
 use Rattle.fat_ir.specs.Calls.{with_turns}
-use Rattle.bounds_plan.specs.State.{with_made, with_cause}
-use Rattle.bounds_plan.specs.Expressions.{Answer, Comes, Stops, CalleeOfC}
-use Rattle.bounds_plan.specs.Functions.{turn_from}
-use Rattle.bounds_plan.specs.Follows.{value_of, values_of}
-use Rattle.bounds_plan.specs.Outside.{made_and_kept}
-use Rattle.bounds_plan.specs.Roots.{LiesIn, HasRoot, AllHadRoots, AllRooted, LogGrows, AllHaveRoots, LeavesRooted, RootedCalls, RootedOutside}
+use Rattle.bounds_plan.specs.meaning.State.{with_made, with_cause}
+use Rattle.bounds_plan.specs.meaning.Expressions.{Answer, Comes, Stops, CalleeOfC}
+use Rattle.bounds_plan.specs.meaning.Functions.{turn_from}
+use Rattle.bounds_plan.specs.steps.Follows.{value_of, values_of}
+use Rattle.bounds_plan.specs.meaning.Outside.{made_and_kept}
+use Rattle.bounds_plan.specs.laws.Roots.{LiesIn, HasRoot, AllHadRoots, AllRooted, LogGrows, AllHaveRoots, LeavesRooted, RootedCalls, RootedOutside}
 use Rattle.call_sigs.specs.Signatures.{Result, Nothing, Pointer, Of}
 use Rattle.legacy_calls.specs.Legacy.{Linkage, Foreign, ground, from_state, at_entry, after_outer, entered_at, lent}
 use Rattle.obj_file.specs.Beside.{Beside, alone}

@@ -13,10 +13,10 @@ use Rattle.obj_file.specs.Machine.{Event, Goes, Stops as Halts, event}
 use Rattle.obj_file.specs.Stored.{Stored}
 use Rattle.fat_ir.specs.Values.{Value}
 use Rattle.fat_ir.specs.Calls.{Callee, Outcome, Comes as ComesBack, Stuck}
-use Rattle.bounds_plan.specs.State.{Passed, OfPointer}
-use Rattle.bounds_plan.specs.Expressions.{Answer, Comes, Stops, CalleeOfC}
-use Rattle.bounds_plan.specs.Follows.{value_of, values_of, outcome_of, DoesSame}
-use Rattle.bounds_plan.specs.Compiled.{OutsideSame}
+use Rattle.bounds_plan.specs.meaning.State.{Passed, OfPointer}
+use Rattle.bounds_plan.specs.meaning.Expressions.{Answer, Comes, Stops, CalleeOfC}
+use Rattle.bounds_plan.specs.steps.Follows.{value_of, values_of, outcome_of, DoesSame}
+use Rattle.bounds_plan.specs.steps.Compiled.{OutsideSame}
 use Rattle.bounds_plan.proofs.Calls.{taking_same}
 use Rattle.call_sigs.specs.Signatures.{Result, Nothing, Pointer, Of, parameter_register}
 use Rattle.legacy_calls.specs.Legacy.{Linkage, Foreign, ground, from_state, at_entry, after_outer, arguments_from, given, stepped, came_back, entered_at, lent, legacy_run, finished, unless_refused, outside}

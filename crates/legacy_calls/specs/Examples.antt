@@ -13,8 +13,8 @@ use Rattle.x86_forms.specs.declared.instr.Base.TheVariants.{Reg as BaseReg}
 use Rattle.x86_forms.specs.Spelling.{spelling}
 use Rattle.obj_file.specs.Machine.{Reading, Is, Neither}
 use Rattle.x86_forms.specs.declared.instr.Instr.TheVariants.{MovTo, Bndmk, Bndldx, Bndstx, Ret, CallRel}
-use Rattle.bounds_plan.specs.State.{Passed, OfNumber, OfPointer}
-use Rattle.bounds_plan.specs.Expressions.{Answer, Comes, Stops, CalleeOfC}
+use Rattle.bounds_plan.specs.meaning.State.{Passed, OfNumber, OfPointer}
+use Rattle.bounds_plan.specs.meaning.Expressions.{Answer, Comes, Stops, CalleeOfC}
 use Rattle.call_sigs.specs.Signatures.{Pointer}
 use Rattle.legacy_calls.specs.Legacy.{Linkage}
 use Rattle.legacy_calls.specs.OfC.{outside_of_c}

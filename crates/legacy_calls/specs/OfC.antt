@@ -14,12 +14,12 @@ use Rattle.obj_file.specs.Machine.{Ground, State, Event, Goes, Stops as Halts, e
 use Rattle.obj_file.specs.Stored.{Stored}
 use Rattle.fat_ir.specs.Values.{Value}
 use Rattle.fat_ir.specs.Step.{stop_by}
-use Rattle.bounds_plan.specs.State.{Passed, OfNumber, OfPointer, with_made, with_cause, pages_with, listed}
-use Rattle.bounds_plan.specs.Accesses.{with_granule}
-use Rattle.bounds_plan.specs.Expressions.{Answer, Comes, Stops, CalleeOfC}
-use Rattle.bounds_plan.specs.Functions.{taking_turn}
-use Rattle.bounds_plan.specs.Follows.{value_of, values_of}
-use Rattle.bounds_plan.specs.Outside.{made_and_kept}
+use Rattle.bounds_plan.specs.meaning.State.{Passed, OfNumber, OfPointer, with_made, with_cause, pages_with, listed}
+use Rattle.bounds_plan.specs.meaning.Accesses.{with_granule}
+use Rattle.bounds_plan.specs.meaning.Expressions.{Answer, Comes, Stops, CalleeOfC}
+use Rattle.bounds_plan.specs.meaning.Functions.{taking_turn}
+use Rattle.bounds_plan.specs.steps.Follows.{value_of, values_of}
+use Rattle.bounds_plan.specs.meaning.Outside.{made_and_kept}
 use Rattle.call_sigs.specs.Signatures.{Result, Nothing, Pointer, Of, parameter_register}
 use Rattle.x86_forms.specs.Processor.{rax}
 use Rattle.legacy_calls.specs.Legacy.{Linkage, Foreign, ground, as_state, from_state, at_entry, after_outer, far_of, stop_of, entered_at, lent}

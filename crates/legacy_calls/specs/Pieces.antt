@@ -4,7 +4,7 @@ use Rattle.mx_base.specs.World.{World, Log}
 use Rattle.x86_forms.specs.Processor.{Processor}
 use Rattle.obj_file.specs.Machine.{Event, Goes, Stops, event}
 use Rattle.obj_file.specs.Stored.{Stored}
-use Rattle.bounds_plan.specs.Laws.{Events}
+use Rattle.bounds_plan.specs.laws.Laws.{Events}
 use Rattle.legacy_calls.specs.Legacy.{Linkage, from_state}
 use Rattle.obj_file.specs.Beside.{Beside, alone}
 use Rattle.legacy_calls.specs.OfC.{ground_of_c, as_noted}

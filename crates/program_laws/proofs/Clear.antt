@@ -3,9 +3,9 @@ use Rattle.std.proofs.Common.{◌≡◌, ℕ, zero, suc, ◌+◌, ◌-◌, ◌<�
 use Rattle.std.specs.Prelude.{nat_eq}
 use Rattle.std.proofs.lemmas.Bool.{cases_lt}
 use Rattle.std.proofs.lemmas.Bool.Decides.{nat_tests}
-use Rattle.bounds_plan.specs.Code.{fat_function, fat_parameters}
-use Rattle.bounds_plan.specs.Compiled.{ParametersStand, sorts_of}
-use Rattle.bounds_plan.specs.Functions.{FunctionOfC, Parameter, Private, Framed}
+use Rattle.bounds_plan.specs.steps.Code.{fat_function, fat_parameters}
+use Rattle.bounds_plan.specs.steps.Compiled.{ParametersStand, sorts_of}
+use Rattle.bounds_plan.specs.meaning.Functions.{FunctionOfC, Parameter, Private, Framed}
 use Rattle.step_code.specs.declared.homes.Home.{Home}
 use Rattle.step_code.specs.declared.homes.Home.TheVariants.{Reg, Slot, Bnd}
 use Rattle.step_code.specs.Homes.{IsPairHome, IsSlot}

@@ -8,10 +8,10 @@ use Rattle.mx_base.specs.Memory.{Bytes}
 use Rattle.mx_base.specs.StopOfC.{AccessOfC}
 use Rattle.fat_ir.specs.Spans.{Range, Holds}
 use Rattle.fat_ir.specs.Step.{Located}
-use Rattle.bounds_plan.specs.Code.{fat_function, fat_parameters, arrived, in_turn, most_pairs}
-use Rattle.bounds_plan.specs.Compiled.{FitsFunction, ParametersStand, all_compiled, compiled, parameters_of, sorts_of, taken_by}
-use Rattle.bounds_plan.specs.Functions.{FunctionOfC, Linked, Parameter, Private, Framed}
-use Rattle.bounds_plan.specs.Sorts.{pairs_of}
+use Rattle.bounds_plan.specs.steps.Code.{fat_function, fat_parameters, arrived, in_turn, most_pairs}
+use Rattle.bounds_plan.specs.steps.Compiled.{FitsFunction, ParametersStand, all_compiled, compiled, parameters_of, sorts_of, taken_by}
+use Rattle.bounds_plan.specs.meaning.Functions.{FunctionOfC, Linked, Parameter, Private, Framed}
+use Rattle.bounds_plan.specs.steps.Sorts.{pairs_of}
 use Rattle.step_code.specs.Asked.{FineSteps}
 use Rattle.step_code.specs.Homes.{first_in, last_in}
 use Rattle.step_code.specs.Homing.{FineArguments, taken}

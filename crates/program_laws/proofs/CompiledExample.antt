@@ -15,10 +15,10 @@ use Rattle.obj_file.specs.Machine.{Reading, IsReader}
 use Rattle.fat_ir.specs.declared.step.FatStep.{FatStep}
 use Rattle.fat_ir.specs.declared.step.FatStep.TheVariants as s
 use Rattle.fat_ir.specs.Spans.{named, StandsAt, Range, Holds, Spans}
-use Rattle.bounds_plan.specs.Code.{fat_function}
-use Rattle.bounds_plan.specs.Compiled.{FitsFunction, compiled, parameters_of, taken_by}
-use Rattle.bounds_plan.specs.Follows.{outcome_of}
-use Rattle.bounds_plan.specs.Functions.{program_run}
+use Rattle.bounds_plan.specs.steps.Code.{fat_function}
+use Rattle.bounds_plan.specs.steps.Compiled.{FitsFunction, compiled, parameters_of, taken_by}
+use Rattle.bounds_plan.specs.steps.Follows.{outcome_of}
+use Rattle.bounds_plan.specs.meaning.Functions.{program_run}
 use Rattle.step_code.specs.Homes.{Apart, HaveHomes, IsNumberHome, IsPairHome, width}
 use Rattle.step_code.specs.Functions.{IsWritten, past_function}
 use Rattle.step_code.specs.declared.homes.Home.{Home}

@@ -14,9 +14,9 @@ use Rattle.fat_ir.specs.Functions.{Linked, Target, OfC, Outside, call_of, symbol
 use Rattle.fat_ir.specs.Laws.{Leads, FramesGivenBack, SameFrame, Anywhere}
 use Rattle.fat_ir.proofs.Runs.{led-steps_run}
 use Rattle.fat_ir.proofs.Worlds.{same_frame}
-use Rattle.bounds_plan.specs.Compiled.{FitsProgram, all_compiled, parameters_of}
-use Rattle.bounds_plan.specs.Follows.{outcome_of}
-use Rattle.bounds_plan.specs.Functions.{Linked as LinkedInC, program_run as program_run_in_c}
+use Rattle.bounds_plan.specs.steps.Compiled.{FitsProgram, all_compiled, parameters_of}
+use Rattle.bounds_plan.specs.steps.Follows.{outcome_of}
+use Rattle.bounds_plan.specs.meaning.Functions.{Linked as LinkedInC, program_run as program_run_in_c}
 use Rattle.legacy_calls.specs.Legacy.{Linkage, outside}
 use Rattle.legacy_calls.specs.OfC.{outside_of_c}
 use Rattle.gate_laws.specs.Crossings.{ProgramEnds}

@@ -7,10 +7,10 @@ use Rattle.mx_base.specs.StopOfC.{AccessOfC}
 use Rattle.x86_forms.specs.Watch.{is_legacy}
 use Rattle.obj_file.specs.Machine.{IsReader}
 use Rattle.fat_ir.specs.Spans.{Range}
-use Rattle.bounds_plan.specs.Code.{fat_function, fat_parameters, is_pointer, most_pairs}
-use Rattle.bounds_plan.specs.Compiled.{FitsProgram, compiled}
-use Rattle.bounds_plan.specs.Functions.{Linked, Parameter, Private, Framed}
-use Rattle.bounds_plan.specs.Sorts.{pairs_of}
+use Rattle.bounds_plan.specs.steps.Code.{fat_function, fat_parameters, is_pointer, most_pairs}
+use Rattle.bounds_plan.specs.steps.Compiled.{FitsProgram, compiled}
+use Rattle.bounds_plan.specs.meaning.Functions.{Linked, Parameter, Private, Framed}
+use Rattle.bounds_plan.specs.steps.Sorts.{pairs_of}
 use Rattle.step_code.specs.Functions.{Layout, IsWritten}
 use Rattle.step_code.specs.Homes.{first_in, last_in}
 use Rattle.step_code.specs.Homing.{Clear, next_pair, width_of}

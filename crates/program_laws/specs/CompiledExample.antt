@@ -7,10 +7,10 @@ use Rattle.obj_file.specs.Machine.{Reading}
 use Rattle.fat_ir.specs.Functions.{OfC}
 use Rattle.fat_ir.specs.Spans.{Range}
 use Rattle.fat_ir.specs.Step.{ObjectAt}
-use Rattle.bounds_plan.specs.Code.{fat_function}
-use Rattle.bounds_plan.specs.Compiled.{compiled}
-use Rattle.bounds_plan.specs.Core.{Word, Variable, Assign, OfNumber, Do, Then, ReturnNumber}
-use Rattle.bounds_plan.specs.Functions.{FunctionOfC, Linked}
+use Rattle.bounds_plan.specs.steps.Code.{fat_function}
+use Rattle.bounds_plan.specs.steps.Compiled.{compiled}
+use Rattle.bounds_plan.specs.meaning.Core.{Word, Variable, Assign, OfNumber, Do, Then, ReturnNumber}
+use Rattle.bounds_plan.specs.meaning.Functions.{FunctionOfC, Linked}
 use Rattle.step_code.specs.declared.homes.Home.{Home}
 use Rattle.step_code.specs.declared.homes.Home.TheVariants.{Slot}
 use Rattle.step_code.specs.Functions.{bytes_of_function}

@@ -103,8 +103,8 @@ fn show_binds(alloc: Global, text: &mut String, binds: &[Bind]) -> Result<(), Al
             Bind::Global(n) => format!(in alloc; " G{n}")?,
             Bind::Local(n) => format!(in alloc; " L{n}")?,
             Bind::Fun(n) => format!(in alloc; " F{n}")?,
-            Bind::Service(n) => format!(in alloc; " V{n}")?,
-            Bind::Builtin(n) => format!(in alloc; " B{n}")?,
+            Bind::Service(service) => format!(in alloc; " {service:?}")?,
+            Bind::Builtin(builtin) => format!(in alloc; " {builtin:?}")?,
         };
         text.push_str(part.as_str())?;
     }

@@ -15,7 +15,7 @@ fn value(tree: &Tree) -> Option<&Expr> {
     }
 }
 
-/// Of the expression that initialises the first variable its operator and its columns: of a binary one `binary NUMBER` and the columns of
+/// Of the expression that initialises the first variable its operator and its columns: of a binary one `binary OPERATOR` and the columns of
 /// the expression and its operands; of an assignment `assign`, what stands on its left, and the column on its right.
 pub fn operands(alloc: Global, tree: &Tree) -> Result<String, AllocError> {
     match value(tree) {
@@ -28,7 +28,7 @@ fn operands_of(alloc: Global, e: &Expr) -> Result<String, AllocError> {
     match &e.kind {
         ExprKind::Binary(op, left, right) => {
             let columns = (e.place.col, left.get().place.col, right.get().place.col);
-            format!(in alloc; "binary {op} {columns:?}")
+            format!(in alloc; "binary {op:?} {columns:?}")
         }
         ExprKind::Assign(None, left, right) => {
             let column = right.get().place.col;

@@ -3,10 +3,10 @@ use Rattle.std.specs.Prelude.{◌≡◌, ℕ, ◌+◌, ◌==◌, ◌&&◌, Bool,
 use Rattle.narrowing.specs.declared.member.Rule.{Rule}
 use Rattle.narrowing.specs.Member.{member_rule}
 use Rattle.c_types.specs.Types.{CType, Types, type_at, IsIn, members_of}
-use Rattle.bounds_plan.specs.Core.{Null, InFrame, Scalar}
-use Rattle.bounds_plan.specs.ElaborateTypes.{sort_of}
-use Rattle.bounds_plan.specs.ElaborateSource.{Around, Signature}
-use Rattle.bounds_plan.specs.ElaboratePlaces.{Lvalue, NumberVariable, PointerVariable, InMemory, offset_in, place_among}
+use Rattle.bounds_plan.specs.meaning.Core.{Null, InFrame, Scalar}
+use Rattle.bounds_plan.specs.elaboration.Types.{sort_of}
+use Rattle.bounds_plan.specs.elaboration.Source.{Around, Signature}
+use Rattle.bounds_plan.specs.elaboration.Places.{Lvalue, NumberVariable, PointerVariable, InMemory, offset_in, place_among}
 use Rattle.steps_facts.specs.declared.seen.Sorted.{Sorted}
 use Rattle.steps_facts.specs.declared.knows.Part.{Part}
 use Rattle.steps_facts.specs.declared.knows.ScalarAt.{ScalarAt}

@@ -4,10 +4,10 @@ use Rattle.mx_base.specs.declared.numbers.IntKind.{IntKind}
 use Rattle.mx_base.specs.declared.numbers.IntKind.TheVariants.{U64}
 use Rattle.mx_base.specs.declared.places.Place.{Place}
 use Rattle.c_types.specs.Types.{CType, StructType}
-use Rattle.bounds_plan.specs.ElaborateTypes.{Value, Numeric, Address, Sort, ANumber, APointer, AWhole, NoValue, sort_of, is_array, size_in, step_in, target_of}
-use Rattle.bounds_plan.specs.ElaboratePlaces.{Lvalue, NumberVariable, PointerVariable, InMemory, struct_of}
-use Rattle.bounds_plan.specs.ElaborateSource.{Reached as ReachedOf}
-use Rattle.bounds_plan.specs.ElaborateExpressions.{Found}
+use Rattle.bounds_plan.specs.elaboration.Types.{Value, Numeric, Address, Sort, ANumber, APointer, AWhole, NoValue, sort_of, is_array, size_in, step_in, target_of}
+use Rattle.bounds_plan.specs.elaboration.Places.{Lvalue, NumberVariable, PointerVariable, InMemory, struct_of}
+use Rattle.bounds_plan.specs.elaboration.Source.{Reached as ReachedOf}
+use Rattle.bounds_plan.specs.elaboration.Expressions.{Found}
 use Rattle.steps_facts.specs.declared.seen.Sorted.{Sorted}
 use Rattle.steps_facts.specs.declared.seen.Sorted.TheVariants as o
 use Rattle.steps_facts.specs.declared.seen.Facts.{Facts}

@@ -3,11 +3,11 @@
 ghost use Rattle.std.specs.Prelude.{◌≡◌, IfOk, Some, All, map, slice_index_or};
 ghost use Rattle.c_types.specs.Types.{Struct, Types, type_at, built, IsIn, members_of};
 ghost use Rattle.c_types.specs.Layouts.{CanBuild, layout_of, offsets_from};
-ghost use Rattle.bounds_plan.specs.ElaborateScalars.{scalars_of};
-ghost use Rattle.bounds_plan.specs.ElaborateTypes.{size_in, sort_of};
-ghost use Rattle.bounds_plan.specs.ElaborateSource.{Around, kind_at, bind_at, declared_at, literal_at, past_kind, past_name, past_literal, past_declaration};
-ghost use Rattle.bounds_plan.specs.ElaboratePlaces.{variable_of};
-ghost use Rattle.bounds_plan.specs.ElaborateExpressions.{symbol_of, based, starred};
+ghost use Rattle.bounds_plan.specs.elaboration.Scalars.{scalars_of};
+ghost use Rattle.bounds_plan.specs.elaboration.Types.{size_in, sort_of};
+ghost use Rattle.bounds_plan.specs.elaboration.Source.{Around, kind_at, bind_at, declared_at, literal_at, past_kind, past_name, past_literal, past_declaration};
+ghost use Rattle.bounds_plan.specs.elaboration.Places.{variable_of};
+ghost use Rattle.bounds_plan.specs.elaboration.Expressions.{symbol_of, based, starred};
 ghost use Rattle.steps_facts.specs.Seen.{sorted, facts_of, reached_of};
 ghost use Rattle.steps_facts.specs.Around.{standing_at, OffsetIs, RuleIs, parameters_at, part_types, part_offsets, IsPart, scalars_seen};
 

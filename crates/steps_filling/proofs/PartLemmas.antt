@@ -8,12 +8,12 @@ use Rattle.fat_ir.specs.declared.step.FatStep.{FatStep}
 use Rattle.fat_ir.specs.declared.step.FatStep.TheVariants as s
 use Rattle.mx_base.specs.declared.numbers.IntKind.TheVariants.{U64}
 use Rattle.mx_base.specs.declared.operators.Arithmetic.TheVariants.{Add}
-use Rattle.bounds_plan.specs.Core.{Word, Null, Effect, Scalar}
-use Rattle.bounds_plan.specs.Code.{code_effect, labels_effect, copied, copied_all, offset_by}
-use Rattle.bounds_plan.specs.ElaborateTypes.{Numeric, Address, ANumber, APointer}
-use Rattle.bounds_plan.specs.ElaboratePlaces.{written_as}
-use Rattle.bounds_plan.specs.ElaborateExpressions.{effect_of}
-use Rattle.bounds_plan.specs.ElaborateInitialisers.{part_at}
+use Rattle.bounds_plan.specs.meaning.Core.{Word, Null, Effect, Scalar}
+use Rattle.bounds_plan.specs.steps.Code.{code_effect, labels_effect, copied, copied_all, offset_by}
+use Rattle.bounds_plan.specs.elaboration.Types.{Numeric, Address, ANumber, APointer}
+use Rattle.bounds_plan.specs.elaboration.Places.{written_as}
+use Rattle.bounds_plan.specs.elaboration.Expressions.{effect_of}
+use Rattle.bounds_plan.specs.elaboration.Initialisers.{part_at}
 use Rattle.steps_facts.specs.declared.seen.Sorted.{Sorted}
 use Rattle.steps_facts.specs.declared.seen.Sorted.TheVariants as o
 use Rattle.steps_facts.specs.declared.seen.Spot.{Spot}

@@ -1,7 +1,7 @@
 -- What was put down, and how it goes on by effects.
 use Rattle.std.specs.Prelude.{ℕ, List, [], ◌∷◌}
-use Rattle.bounds_plan.specs.Core.{Effect}
-use Rattle.bounds_plan.specs.Code.{labels_effect, code_effect}
+use Rattle.bounds_plan.specs.meaning.Core.{Effect}
+use Rattle.bounds_plan.specs.steps.Code.{labels_effect, code_effect}
 use Rattle.steps_pieces.specs.Put.{Put, goes}
 
 -- an effect, whose values go into d and what is behind it

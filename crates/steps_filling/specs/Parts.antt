@@ -5,13 +5,13 @@ use Rattle.mx_base.specs.declared.numbers.IntKind.TheVariants.{U64}
 use Rattle.mx_base.specs.declared.places.Place.{Place}
 use Rattle.fat_ir.specs.declared.step.FatStep.{FatStep}
 use Rattle.fat_ir.specs.declared.step.FatStep.TheVariants as s
-use Rattle.bounds_plan.specs.Core.{Word, Null, Effect, Scalar}
-use Rattle.bounds_plan.specs.Code.{code_ptr, offset_by, copied, copied_all}
-use Rattle.bounds_plan.specs.ElaborateScalars.{scalar_at}
-use Rattle.bounds_plan.specs.ElaborateTypes.{Numeric, Address, ANumber, APointer}
-use Rattle.bounds_plan.specs.ElaboratePlaces.{written_as, address_in}
-use Rattle.bounds_plan.specs.ElaborateExpressions.{Found, effect_of}
-use Rattle.bounds_plan.specs.ElaborateInitialisers.{part_at, zero_written}
+use Rattle.bounds_plan.specs.meaning.Core.{Word, Null, Effect, Scalar}
+use Rattle.bounds_plan.specs.steps.Code.{code_ptr, offset_by, copied, copied_all}
+use Rattle.bounds_plan.specs.elaboration.Scalars.{scalar_at}
+use Rattle.bounds_plan.specs.elaboration.Types.{Numeric, Address, ANumber, APointer}
+use Rattle.bounds_plan.specs.elaboration.Places.{written_as, address_in}
+use Rattle.bounds_plan.specs.elaboration.Expressions.{Found, effect_of}
+use Rattle.bounds_plan.specs.elaboration.Initialisers.{part_at, zero_written}
 use Rattle.steps_facts.specs.declared.seen.Sorted.{Sorted}
 use Rattle.steps_facts.specs.declared.knows.Standing.{Standing}
 use Rattle.steps_facts.specs.Seen.{is_number, spot_of}

@@ -1,7 +1,7 @@
 //! A struct is copied, scalar by scalar.
 
 ghost use Rattle.std.specs.Prelude.{◌≡◌, ◌+◌, ◌≤◌, ◌^◌, OnOk, IfOk};
-ghost use Rattle.bounds_plan.specs.Code.{offset_by, copied};
+ghost use Rattle.bounds_plan.specs.steps.Code.{offset_by, copied};
 ghost use Rattle.steps_facts.specs.Around.{scalars_seen};
 ghost use Rattle.steps_pieces.specs.Put.{put_of, added};
 ghost use Rattle.steps_filling.specs.Parts.{went_copies, copying};

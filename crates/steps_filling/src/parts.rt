@@ -1,7 +1,7 @@
 //! Parts of a variable, and the words that are written there.
 
 ghost use Rattle.std.specs.Prelude.{◌≡◌, ◌+◌, ◌≤◌, ◌^◌, ◌∷◌, [], OnOk};
-ghost use Rattle.bounds_plan.specs.ElaborateInitialisers.{zero_written};
+ghost use Rattle.bounds_plan.specs.elaboration.Initialisers.{zero_written};
 ghost use Rattle.steps_facts.specs.Seen.{spot_of};
 ghost use Rattle.steps_facts.specs.Around.{standing_at, scalar_of};
 ghost use Rattle.steps_pieces.specs.Put.{put_of, added};

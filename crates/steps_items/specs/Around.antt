@@ -3,12 +3,12 @@ use Rattle.std.specs.Prelude.{◌≡◌, Option, Some, List, map, All}
 use Rattle.c_tree.specs.declared.tree.Decl.{Decl}
 use Rattle.c_tree.specs.declared.tree.Init.{Init}
 use Rattle.c_types.specs.Types.{Types, type_at, IsIn}
-use Rattle.bounds_plan.specs.ElaborateSource.{Around, Reached, Signature, declared_at, bind_at, past_declaration, function_number}
-use Rattle.bounds_plan.specs.ElaborateExpressions.{expression}
-use Rattle.bounds_plan.specs.ElaborateInitialisers.{initialiser}
-use Rattle.bounds_plan.specs.ElaborateStatements.{past_counts, maybe}
-use Rattle.bounds_plan.specs.ElaborateFunctions.{Declared, declared_all, past_initialiser}
-use Rattle.bounds_plan.specs.ElaborateSource as elaborated
+use Rattle.bounds_plan.specs.elaboration.Source.{Around, Reached, Signature, declared_at, bind_at, past_declaration, function_number}
+use Rattle.bounds_plan.specs.elaboration.Expressions.{expression}
+use Rattle.bounds_plan.specs.elaboration.Initialisers.{initialiser}
+use Rattle.bounds_plan.specs.elaboration.Statements.{past_counts, maybe}
+use Rattle.bounds_plan.specs.elaboration.Functions.{Declared, declared_all, past_initialiser}
+use Rattle.bounds_plan.specs.elaboration.Source as elaborated
 use Rattle.steps_facts.specs.Seen.{reached_of}
 use Rattle.steps_structs.specs.Structs.{AreKnown}
 use Rattle.steps_known.specs.Functions.{AreSorted}

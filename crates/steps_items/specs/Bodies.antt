@@ -3,9 +3,9 @@ use Rattle.std.specs.Prelude.{◌≡◌, List, ◌++◌, map, All, slice_index_o
 use Rattle.c_tree.specs.declared.tree.Stmt.{Stmt}
 use Rattle.c_types.specs.declared.shape.TypeId.{TypeId}
 use Rattle.c_types.specs.Types.{type_at, IsIn}
-use Rattle.bounds_plan.specs.ElaborateSource.{Around, FrameLayout}
-use Rattle.bounds_plan.specs.ElaborateStatements.{declarations}
-use Rattle.bounds_plan.specs.ElaborateFunctions.{next_types, no_frame, in_body}
+use Rattle.bounds_plan.specs.elaboration.Source.{Around, FrameLayout}
+use Rattle.bounds_plan.specs.elaboration.Statements.{declarations}
+use Rattle.bounds_plan.specs.elaboration.Functions.{next_types, no_frame, in_body}
 use Rattle.steps_facts.specs.Seen.{reached_of}
 use Rattle.steps_structs.specs.Structs.{structs_known}
 use Rattle.steps_known.specs.Standings.{standings_from}

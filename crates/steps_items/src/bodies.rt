@@ -2,7 +2,7 @@
 
 ghost use Rattle.std.specs.Prelude.{◌≡◌, ◌++◌, map, take, drop, All, IfOk, slice_index_or};
 ghost use Rattle.c_types.specs.Types.{type_at, IsIn};
-ghost use Rattle.bounds_plan.specs.ElaborateFunctions.{no_frame};
+ghost use Rattle.bounds_plan.specs.elaboration.Functions.{no_frame};
 ghost use Rattle.c_accepted.specs.Planned.{stand_of, layout_frame};
 ghost use Rattle.steps_known.specs.Known.{around_of};
 ghost use Rattle.steps_items.specs.Around.{IsSource, IsGone, table_of};

@@ -1,7 +1,7 @@
 //! How many variables a body declares.
 
 ghost use Rattle.std.specs.Prelude.{◌≡◌, ◌+◌, map, option_map, IfOk};
-ghost use Rattle.bounds_plan.specs.ElaborateStatements as spec;
+ghost use Rattle.bounds_plan.specs.elaboration.Statements as spec;
 
 use c_tree::{Stmt, StmtKind};
 use mx_base::OutOfMemory;

@@ -2,8 +2,8 @@
 
 ghost use Rattle.std.specs.Prelude.{◌≡◌, [], map, All, IfOk, OnOk, Some};
 ghost use Rattle.c_types.specs.Types.{type_at, IsIn};
-ghost use Rattle.bounds_plan.specs.ElaborateSource as source_spec;
-ghost use Rattle.bounds_plan.specs.ElaborateFunctions.{with_struct, with_signature};
+ghost use Rattle.bounds_plan.specs.elaboration.Source as source_spec;
+ghost use Rattle.bounds_plan.specs.elaboration.Functions.{with_struct, with_signature};
 ghost use Rattle.steps_facts.specs.Seen.{reached_of};
 ghost use Rattle.steps_known.specs.Known.{around_of};
 ghost use Rattle.steps_items.specs.Around.{IsSource, IsGone, IsHead, table_of, around_at, signature_at, behind_variable, members_next, parameters_next};

@@ -1,10 +1,10 @@
 -- Where variables stand is where the elaboration has them; and sizes of named types.
 use Rattle.std.proofs.Common.{◌≡◌, ℕ, zero, suc, ◌+◌, ◌<◌, refl, ap, ◌∙◌, List, [], ◌∷◌, length, slice_index_or, arith}
 use Rattle.c_types.specs.Types.{CType, StructType}
-use Rattle.bounds_plan.specs.ElaborateTypes.{Sort, ANumber, APointer, AWhole, NoValue, sort_of, size_in}
-use Rattle.bounds_plan.specs.ElaborateSource.{Stand, Private, Frame}
-use Rattle.bounds_plan.specs.ElaboratePlaces.{private_values_of, variable_at, variable_of}
-use Rattle.bounds_plan.specs.ElaborateExpressions.{starred}
+use Rattle.bounds_plan.specs.elaboration.Types.{Sort, ANumber, APointer, AWhole, NoValue, sort_of, size_in}
+use Rattle.bounds_plan.specs.elaboration.Source.{Stand, Private, Frame}
+use Rattle.bounds_plan.specs.elaboration.Places.{private_values_of, variable_at, variable_of}
+use Rattle.bounds_plan.specs.elaboration.Expressions.{starred}
 use Rattle.steps_facts.specs.declared.knows.Standing.TheVariants as t
 use Rattle.steps_facts.specs.Seen.{sorted}
 use Rattle.steps_facts.specs.Around.{standing_at}

@@ -2,7 +2,7 @@
 use Rattle.std.specs.Prelude.{◌≡◌, List, map, All}
 use Rattle.c_types.specs.declared.shape.TypeId.{TypeId}
 use Rattle.c_types.specs.Types.{Types, type_at}
-use Rattle.bounds_plan.specs.ElaborateSource.{Signature}
+use Rattle.bounds_plan.specs.elaboration.Source.{Signature}
 use Rattle.steps_facts.specs.Around.{sorts_of}
 use Rattle.steps_known.specs.declared.functions.KnownFunction.{KnownFunction}
 

@@ -7,7 +7,7 @@ use Rattle.c_types.specs.Types.{Types, type_at, built, IsIn}
 use Rattle.c_check_rules.specs.declared.predeclared.Bind.{Bind}
 use Rattle.place_plan.specs.declared.plans.Spot.{Spot}
 use Rattle.place_plan.specs.declared.plans.FramePlan.{FramePlan}
-use Rattle.bounds_plan.specs.ElaborateSource.{Around}
+use Rattle.bounds_plan.specs.elaboration.Source.{Around}
 use Rattle.c_accepted.specs.Planned.{stand_of, layout_frame}
 use Rattle.steps_structs.specs.declared.known.KnownStruct.{KnownStruct}
 use Rattle.steps_structs.specs.Structs.{structs_known, tags_known, names_known, AreKnown}

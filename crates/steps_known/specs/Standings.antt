@@ -1,8 +1,8 @@
 -- Where the variables of a function stand, by the sorts of their types.
 use Rattle.std.specs.Prelude.{ℕ, ◌+◌, List, [], ◌∷◌}
 use Rattle.c_types.specs.Types.{CType, StructType}
-use Rattle.bounds_plan.specs.ElaborateTypes.{sort_of, size_in}
-use Rattle.bounds_plan.specs.ElaborateSource.{Stand, Private, Frame}
+use Rattle.bounds_plan.specs.elaboration.Types.{sort_of, size_in}
+use Rattle.bounds_plan.specs.elaboration.Source.{Stand, Private, Frame}
 use Rattle.steps_facts.specs.declared.knows.Standing.{Standing}
 use Rattle.steps_facts.specs.declared.knows.Standing.TheVariants as t
 use Rattle.steps_facts.specs.declared.seen.Sorted.{Sorted}

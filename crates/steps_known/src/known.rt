@@ -1,7 +1,7 @@
 //! What is known at a function.
 
 ghost use Rattle.std.specs.Prelude.{◌≡◌, slice_index_or, slice_get};
-ghost use Rattle.bounds_plan.specs.ElaboratePlaces.{place_among};
+ghost use Rattle.bounds_plan.specs.elaboration.Places.{place_among};
 ghost use Rattle.steps_facts.specs.declared.knows.Standing.TheVariants as standing;
 ghost use Rattle.steps_structs.specs.Structs.{kept, tags_known};
 

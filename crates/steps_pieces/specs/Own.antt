@@ -12,15 +12,23 @@ use Rattle.mx_base.specs.declared.services.CService.TheVariants as in_c
 use Rattle.mx_base.specs.Numbers.{size_of}
 use Rattle.narrowing.specs.declared.member.Rule.{Rule}
 use Rattle.narrowing.specs.declared.member.Rule.TheVariants.{Keep, Meet}
+use Rattle.c_tree.specs.declared.operators.UnaryOp.{UnaryOp}
+use Rattle.c_tree.specs.declared.operators.UnaryOp.TheVariants as u
+use Rattle.c_tree.specs.declared.operators.Logical.TheVariants as logic
+use Rattle.c_tree.specs.declared.operators.BinaryOp.{BinaryOp}
+use Rattle.c_tree.specs.declared.operators.BinaryOp.TheVariants as j
+use Rattle.c_check_rules.specs.declared.predeclared.Builtin.{Builtin}
+use Rattle.c_check_rules.specs.declared.predeclared.Builtin.TheVariants as i
+use Rattle.c_check_rules.specs.Operators.{shifts, takes_away}
 use Rattle.c_check_rules.specs.declared.predeclared.Bind.{Bind}
 use Rattle.c_check_rules.specs.declared.predeclared.Bind.TheVariants.{Global, Local, Fun, Service, Builtin as BuiltinOf}
 use Rattle.fat_ir.specs.declared.step.FatStep.{FatStep}
 use Rattle.fat_ir.specs.declared.step.FatStep.TheVariants as s
-use Rattle.bounds_plan.specs.Code.{scaled, plus_or_minus, ruled, offset_by, full, before_or_after}
-use Rattle.bounds_plan.specs.ElaborateTypes.{promoted, common, done_in}
-use Rattle.bounds_plan.specs.ElaboratePlaces.{Lvalue, takes_away, variable_of}
-use Rattle.bounds_plan.specs.ElaborateSource.{Around}
-use Rattle.bounds_plan.specs.ElaborateExpressions.{minus_one, symbol_of}
+use Rattle.bounds_plan.specs.steps.Code.{scaled, plus_or_minus, ruled, offset_by, full, before_or_after}
+use Rattle.bounds_plan.specs.elaboration.Types.{promoted, common, done_in}
+use Rattle.bounds_plan.specs.elaboration.Places.{Lvalue, variable_of}
+use Rattle.bounds_plan.specs.elaboration.Source.{Around}
+use Rattle.bounds_plan.specs.elaboration.Expressions.{minus_one, symbol_of}
 use Rattle.steps_facts.specs.declared.seen.Sorted.{Sorted}
 use Rattle.steps_facts.specs.declared.seen.Sorted.TheVariants as o
 use Rattle.steps_facts.specs.declared.seen.Spot.{Spot}
@@ -28,13 +36,7 @@ use Rattle.steps_facts.specs.declared.seen.Spot.TheVariants as p
 use Rattle.steps_facts.specs.declared.seen.Facts.{Facts}
 use Rattle.steps_facts.specs.Seen.{SeenOf, kind_in, spot_of}
 use Rattle.steps_facts.specs.Around.{parameters_at}
-use Rattle.steps_pieces.specs.declared.operators.Joint.{Joint}
-use Rattle.steps_pieces.specs.declared.operators.Joint.TheVariants as j
-use Rattle.steps_pieces.specs.declared.operators.Single.{Single}
-use Rattle.steps_pieces.specs.declared.operators.Single.TheVariants as u
-use Rattle.steps_pieces.specs.declared.operators.Builtin.{Builtin}
-use Rattle.steps_pieces.specs.declared.operators.Builtin.TheVariants as i
-use Rattle.steps_pieces.specs.Operators.{shifts, step_operator, service_at, builtin_at}
+use Rattle.steps_pieces.specs.Operators.{step_operator}
 use Rattle.steps_pieces.specs.Wanted.{code_lvalue, extending, addressing, ending, read_unless, reads_number, given_number, null_at}
 
 abbrev pub unless : Bool → List FatStep → List FatStep
@@ -59,8 +61,8 @@ name_steps around (Global number) facts w place d =
 name_steps around (Local number) facts w place d =
     local_steps (variable_of around.structs around.variables around.stands 0 number) facts.sort w place d
 name_steps around (Fun number) facts w place d = (s.Place d (d + 1) (Some (symbol_of around number)) 0 1 ∷ []) ++ ending w false d
-name_steps around (Service number) facts w place d = (s.Const d 0 ∷ []) ++ ending w true d
-name_steps around (BuiltinOf number) facts w place d = (s.Const d 0 ∷ []) ++ ending w true d
+name_steps around (Service service) facts w place d = (s.Const d 0 ∷ []) ++ ending w true d
+name_steps around (BuiltinOf builtin) facts w place d = (s.Const d 0 ∷ []) ++ ending w true d
 
 unfoldable pub name_own : Around → Bind → Facts → (w : Bool) → Place → (d : ℕ) → List FatStep
 name_own around bind facts w place d = name_steps around bind facts w place d
@@ -77,14 +79,14 @@ hidden p.Memory d = []
 abbrev pub with_word : Arithmetic → IntKind → (n : ℕ) → (d : ℕ) → List FatStep
 with_word op kind n d = extending kind (promoted kind) d ++ (s.Const (d + 2) n ∷ s.Arith d op (promoted kind) d (d + 2) ∷ [])
 
-abbrev pub single_steps : Single → SeenOf → Sorted → (w : Bool) → Place → (d : ℕ) → List FatStep
-single_steps u.Negative x sort w place d = with_word Mul (kind_in x.facts.sort) minus_one d ++ ending w true d
-single_steps u.Inverse x sort w place d = with_word BitXor (kind_in x.facts.sort) minus_one d ++ ending w true d
-single_steps u.IsZero x sort w place d = (s.Const (d + 2) 0 ∷ s.Compare d Equal (kind_in x.facts.sort) d (d + 2) ∷ []) ++ ending w true d
-single_steps u.Pointed x sort w place d = addressing x.number d ++ read_unless w p.Memory sort place d
+abbrev pub single_steps : UnaryOp → SeenOf → Sorted → (w : Bool) → Place → (d : ℕ) → List FatStep
+single_steps u.Neg x sort w place d = with_word Mul (kind_in x.facts.sort) minus_one d ++ ending w true d
+single_steps u.BitNot x sort w place d = with_word BitXor (kind_in x.facts.sort) minus_one d ++ ending w true d
+single_steps u.Not x sort w place d = (s.Const (d + 2) 0 ∷ s.Compare d Equal (kind_in x.facts.sort) d (d + 2) ∷ []) ++ ending w true d
+single_steps u.Deref x sort w place d = addressing x.number d ++ read_unless w p.Memory sort place d
 single_steps u.AddressOf x sort w place d = hidden x.spot d
 
-unfoldable pub single_own : Single → SeenOf → Sorted → (w : Bool) → Place → (d : ℕ) → List FatStep
+unfoldable pub single_own : UnaryOp → SeenOf → Sorted → (w : Bool) → Place → (d : ℕ) → List FatStep
 single_own op x sort w place d = single_steps op x sort w place d
 
 -- a cast to a type of a sort
@@ -130,25 +132,25 @@ parting on end d = s.JumpIf d on ∷ s.Jump end ∷ s.Label on ∷ []
 abbrev pub deciding : (on end d : ℕ) → List FatStep
 deciding on end d = s.JumpIf d on ∷ s.Jump end ∷ s.Label on ∷ s.Const d 1 ∷ s.Label end ∷ []
 
-abbrev pub between : Joint → (a b : SeenOf) → (l d : ℕ) → List FatStep
-between (j.Calculation op) a b l d =
+abbrev pub between : BinaryOp → (a b : SeenOf) → (l d : ℕ) → List FatStep
+between (j.Arithmetic op) a b l d =
     if_numbers a.number b.number (extending (kind_in a.facts.sort) (done_in op (kind_in a.facts.sort) (kind_in b.facts.sort)) d)
 between (j.Comparison op) a b l d =
     if_numbers a.number b.number (extending (kind_in a.facts.sort) (common (kind_in a.facts.sort) (kind_in b.facts.sort)) d)
-between j.And a b l d = parting l (l + 1) d
-between j.Or a b l d = s.JumpIf d l ∷ []
+between (j.Logical logic.And) a b l d = parting l (l + 1) d
+between (j.Logical logic.Or) a b l d = s.JumpIf d l ∷ []
 
-abbrev pub behind : Joint → (a b : SeenOf) → (l d : ℕ) → List FatStep
-behind (j.Calculation op) a b l d =
+abbrev pub behind : BinaryOp → (a b : SeenOf) → (l d : ℕ) → List FatStep
+behind (j.Arithmetic op) a b l d =
     calculating a.number b.number op (kind_in a.facts.sort) (kind_in b.facts.sort) a.facts.step b.facts.step d
 behind (j.Comparison op) a b l d = comparing a.number b.number op (kind_in a.facts.sort) (kind_in b.facts.sort) d
-behind j.And a b l d = deciding (l + 2) (l + 1) d
-behind j.Or a b l d = deciding l (l + 1) d
+behind (j.Logical logic.And) a b l d = deciding (l + 2) (l + 1) d
+behind (j.Logical logic.Or) a b l d = deciding l (l + 1) d
 
-unfoldable pub joint_between : Joint → (a b : SeenOf) → (l d : ℕ) → List FatStep
+unfoldable pub joint_between : BinaryOp → (a b : SeenOf) → (l d : ℕ) → List FatStep
 joint_between joint a b l d = between joint a b l d
 
-unfoldable pub joint_behind : Joint → (a b : SeenOf) → (l : ℕ) → (w number : Bool) → (d : ℕ) → List FatStep
+unfoldable pub joint_behind : BinaryOp → (a b : SeenOf) → (l : ℕ) → (w number : Bool) → (d : ℕ) → List FatStep
 joint_behind joint a b l w number d = behind joint a b l d ++ ending w number d
 
 -- ---- `?:`
@@ -185,7 +187,7 @@ value_at (p.Pointer x) d = d
 value_at p.Memory d = d + 2
 
 -- the sort of value that is wanted for `=`; an operator takes any
-abbrev pub assigned_sort : Option ℕ → Sorted → Sorted
+abbrev pub assigned_sort : Option Arithmetic → Sorted → Sorted
 assigned_sort None sort = sort
 assigned_sort (Some op) sort = o.Nothing
 
@@ -317,8 +319,8 @@ abbrev pub takes : Around → Bind → Option (List Sorted)
 takes around (Global number) = None
 takes around (Local number) = None
 takes around (Fun number) = parameters_at around number
-takes around (Service number) = Some (service_takes (service_at number))
-takes around (BuiltinOf number) = Some (builtin_takes (builtin_at number))
+takes around (Service service) = Some (service_takes service)
+takes around (BuiltinOf builtin) = Some (builtin_takes builtin)
 
 -- `alloc` takes a label before its argument
 abbrev pub service_labels : CService → ℕ
@@ -333,8 +335,8 @@ abbrev pub call_labels : Bind → ℕ
 call_labels (Global number) = 0
 call_labels (Local number) = 0
 call_labels (Fun number) = 0
-call_labels (Service number) = service_labels (service_at number)
-call_labels (BuiltinOf number) = 0
+call_labels (Service service) = service_labels service
+call_labels (BuiltinOf builtin) = 0
 
 abbrev pub service_steps : CService → (l d : ℕ) → List FatStep
 service_steps in_c.Print l d = s.Service in_c.Print (Some d) (Some d) ∷ []
@@ -358,8 +360,8 @@ abbrev pub call_steps : Around → Bind → List (ℕ × Option ℕ) → Sorted 
 call_steps around (Global number) places sort l d = []
 call_steps around (Local number) places sort l d = []
 call_steps around (Fun number) places sort l d = s.Call (symbol_of around number) places (Some d) (bounds_for sort d) ∷ []
-call_steps around (Service number) places sort l d = service_steps (service_at number) l d
-call_steps around (BuiltinOf number) places sort l d = builtin_steps (builtin_at number) d
+call_steps around (Service service) places sort l d = service_steps service l d
+call_steps around (BuiltinOf builtin) places sort l d = builtin_steps builtin d
 
 unfoldable pub call_own : Around → Bind → List (ℕ × Option ℕ) → Sorted → (l : ℕ) → (w number : Bool) → (d : ℕ) → List FatStep
 call_own around bind places sort l w number d = call_steps around bind places sort l d ++ ending w number d

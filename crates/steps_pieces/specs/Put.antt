@@ -2,9 +2,9 @@
 use Rattle.std.specs.Prelude.{ℕ, ◌+◌, Bool, List, [], ◌∷◌, ◌++◌}
 use Rattle.c_tree.specs.declared.tree.Expr.{Expr}
 use Rattle.fat_ir.specs.declared.step.FatStep.{FatStep}
-use Rattle.bounds_plan.specs.ElaborateTypes.{kind_of}
-use Rattle.bounds_plan.specs.ElaborateSource.{Reached, Around}
-use Rattle.bounds_plan.specs.ElaborateExpressions.{Found, expression, nothing_found}
+use Rattle.bounds_plan.specs.elaboration.Types.{kind_of}
+use Rattle.bounds_plan.specs.elaboration.Source.{Reached, Around}
+use Rattle.bounds_plan.specs.elaboration.Expressions.{Found, expression, nothing_found}
 use Rattle.steps_facts.specs.declared.seen.Sorted.{Sorted}
 use Rattle.steps_pieces.specs.declared.emitter.Emitter.{Emitter}
 use Rattle.steps_pieces.specs.Wanted.{code_wanted, labels_wanted, code_given, labels_given}

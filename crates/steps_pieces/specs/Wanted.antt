@@ -5,10 +5,10 @@ use Rattle.mx_base.specs.declared.places.Place.{Place}
 use Rattle.mx_base.specs.Numbers.{size_of}
 use Rattle.fat_ir.specs.declared.step.FatStep.{FatStep}
 use Rattle.fat_ir.specs.declared.step.FatStep.TheVariants as s
-use Rattle.bounds_plan.specs.Code.{labels, labels_ptr, code, code_ptr, full}
-use Rattle.bounds_plan.specs.ElaborateTypes.{Value, Numeric, Address, keeps}
-use Rattle.bounds_plan.specs.ElaboratePlaces.{Lvalue, NumberVariable, PointerVariable, InMemory}
-use Rattle.bounds_plan.specs.ElaborateExpressions.{Found}
+use Rattle.bounds_plan.specs.steps.Code.{labels, labels_ptr, code, code_ptr, full}
+use Rattle.bounds_plan.specs.elaboration.Types.{Value, Numeric, Address, keeps}
+use Rattle.bounds_plan.specs.elaboration.Places.{Lvalue, NumberVariable, PointerVariable, InMemory}
+use Rattle.bounds_plan.specs.elaboration.Expressions.{Found}
 use Rattle.steps_facts.specs.declared.seen.Sorted.{Sorted}
 use Rattle.steps_facts.specs.declared.seen.Sorted.TheVariants as o
 use Rattle.steps_facts.specs.declared.seen.Spot.{Spot}

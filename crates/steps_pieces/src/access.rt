@@ -1,7 +1,7 @@
 //! Accesses, and the addresses of elements and members.
 
 ghost use Rattle.std.specs.Prelude.{◌≡◌, ◌+◌, ◌≤◌, ◌^◌, ◌++◌, ◌∷◌, [], OnOk};
-ghost use Rattle.bounds_plan.specs.Code.{ruled, offset_by};
+ghost use Rattle.bounds_plan.specs.steps.Code.{ruled, offset_by};
 ghost use Rattle.steps_pieces.specs.Own.{writing, part_ruled};
 ghost use Rattle.steps_pieces.specs.Wanted.{loading, reading, read_unless};
 

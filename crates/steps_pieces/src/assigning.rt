@@ -1,7 +1,7 @@
 //! What assignments do with a place.
 
 ghost use Rattle.std.specs.Prelude.{◌≡◌, ◌+◌, ◌≤◌, ◌^◌, ◌++◌, ◌∷◌, [], OnOk};
-ghost use Rattle.bounds_plan.specs.Code.{before_or_after};
+ghost use Rattle.bounds_plan.specs.steps.Code.{before_or_after};
 ghost use Rattle.steps_facts.specs.Seen.{view_of};
 ghost use Rattle.steps_pieces.specs.Own.{is_copied as copied, value_at as goes_at, assigned_sort as sort_wanted, storing};
 ghost use Rattle.steps_pieces.specs.Own.{changing, changing_at, changing_number, changing_number_at, number_read, number_written};
@@ -11,8 +11,8 @@ use crate::access::{put_judge, put_writing};
 use crate::emitter::LAST;
 use crate::joining::{moving, put_right};
 use crate::kinds::{done_in, given_number, kind_of, size_of};
-use crate::operators::takes_away;
 use crate::put::{put, put_addressing, put_arith, put_const, put_copy, put_scaled};
+use c_check_rules::takes_away;
 use fat_ir::FatStep;
 use mx_base::{Arithmetic, IntKind, OutOfMemory, Place};
 use sqlite_items::Items;
@@ -43,7 +43,7 @@ pub fn value_at(spot: Spot, d: u32) -> u32
 }
 
 /// The sort of value that is wanted for `=`; an operator takes any.
-pub fn assigned_sort(op: Option<u8>, sort: Sorted) -> Sorted
+pub fn assigned_sort(op: Option<Arithmetic>, sort: Sorted) -> Sorted
     ensures { result ≡ sort_wanted op sort }
 {
     match op {

@@ -6,9 +6,8 @@ ghost use Rattle.steps_pieces.specs.Own.{service_labels as labels_of_service, ca
 ghost use Rattle.steps_pieces.specs.Own.{builtin_steps, call_steps};
 
 use crate::kinds::given_number;
-use crate::operators::{Builtin, builtin_at, service_at};
 use crate::put::{put, put_addressing, put_const, put_copy, put_make, put_meet};
-use c_check_rules::Bind;
+use c_check_rules::{Bind, Builtin};
 use fat_ir::FatStep;
 use mx_base::{CService, IntKind, OutOfMemory};
 use sqlite_items::Items;
@@ -89,8 +88,8 @@ pub fn parameters_of<K: Knows>(
             let all = known.parameters(number)?;
             sorts(alloc, all)
         }
-        Bind::Service(number) => service_parameters(alloc, service_at(number)),
-        Bind::Builtin(number) => builtin_parameters(alloc, builtin_at(number)),
+        Bind::Service(service) => service_parameters(alloc, service),
+        Bind::Builtin(builtin) => builtin_parameters(alloc, builtin),
         Bind::Global(_) | Bind::Local(_) => Err(OutOfMemory),
     }
 }
@@ -112,7 +111,7 @@ pub fn call_labels(bind: Bind) -> u32
     ensures few { result ≤ 1 }
 {
     match bind {
-        Bind::Service(number) => service_labels(service_at(number)),
+        Bind::Service(service) => service_labels(service),
         Bind::Global(_) | Bind::Local(_) | Bind::Fun(_) | Bind::Builtin(_) => 0,
     }
 }
@@ -242,8 +241,8 @@ pub fn put_call_steps<K: Knows>(
                 bounds: bounds_for(sort, d),
             },
         ),
-        Bind::Service(number) => put_service_steps(steps, service_at(number), first, d),
-        Bind::Builtin(number) => put_builtin_steps(steps, builtin_at(number), d),
+        Bind::Service(service) => put_service_steps(steps, service, first, d),
+        Bind::Builtin(builtin) => put_builtin_steps(steps, builtin, d),
         Bind::Global(_) | Bind::Local(_) => Ok(()),
     }
 }

@@ -15,9 +15,10 @@ use crate::calls::put_call_steps;
 use crate::emitter::Emitter;
 use crate::joining::{put_behind, put_between, put_cast_steps, put_indexing, put_single_steps};
 use crate::kinds::{kind_of, reads_number};
-use crate::operators::{Joint, Single, step_operator};
+use crate::operators::step_operator;
 use crate::put::{put, put_addressing, put_const, put_ending, put_extending, put_null, put_place};
 use c_check_rules::Bind;
+use c_tree::{BinaryOp, UnaryOp};
 use fat_ir::FatStep;
 use mx_base::{Arithmetic, IntKind, OutOfMemory, Place};
 use narrowing::Rule;
@@ -114,7 +115,7 @@ pub fn put_name<K: Knows>(
 #[tactic(auto, unfolding(crate::specs::Put::added, crate::specs::Own::single_own))]
 pub fn put_single(
     out: &mut Emitter,
-    op: Single,
+    op: UnaryOp,
     x: Seen,
     sort: Sorted,
     wanted: bool,
@@ -146,7 +147,7 @@ pub fn put_cast(
 #[tactic(auto, unfolding(crate::specs::Put::added, crate::specs::Own::joint_between))]
 pub fn put_joint(
     out: &mut Emitter,
-    joint: Joint,
+    joint: BinaryOp,
     a: Seen,
     b: Seen,
     first: u32,
@@ -162,7 +163,7 @@ pub fn put_joint(
 #[tactic(auto, unfolding(crate::specs::Put::added, crate::specs::Own::joint_behind))]
 pub fn put_joined(
     out: &mut Emitter,
-    joint: Joint,
+    joint: BinaryOp,
     a: Seen,
     b: Seen,
     first: u32,

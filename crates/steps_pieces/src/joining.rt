@@ -1,18 +1,19 @@
 //! What operators do between and behind their operands.
 
 ghost use Rattle.std.specs.Prelude.{◌≡◌, ◌+◌, ◌≤◌, ◌^◌, ◌++◌, ◌∷◌, [], OnOk};
-ghost use Rattle.bounds_plan.specs.Code.{scaled, plus_or_minus};
+ghost use Rattle.bounds_plan.specs.steps.Code.{scaled, plus_or_minus};
 ghost use Rattle.steps_facts.specs.Seen.{view_of};
 ghost use Rattle.steps_pieces.specs.Own.{between, behind, with_word as on_word, right_extending, parting, deciding, single_steps};
 ghost use Rattle.steps_pieces.specs.Own.{cast_steps, hidden};
 
 use crate::access::put_read_unless;
 use crate::kinds::{common, done_in, kind_of, promoted};
-use crate::operators::{Joint, Single, shifts, takes_away};
 use crate::put::{
     put, put_addressing, put_arith, put_compare, put_const, put_copy, put_ending, put_extending,
     put_null, put_scaled,
 };
+use c_check_rules::{shifts, takes_away};
+use c_tree::{BinaryOp, Logical, UnaryOp};
 use fat_ir::FatStep;
 use mx_base::{Arithmetic, Comparison, IntKind, OutOfMemory, Place};
 use sqlite_items::Items;
@@ -48,7 +49,7 @@ fn put_hidden(steps: &mut Items<FatStep>, spot: Spot, d: u32) -> Result<(), OutO
 /// An operator on one operand.
 pub fn put_single_steps(
     steps: &mut Items<FatStep>,
-    op: Single,
+    op: UnaryOp,
     x: Seen,
     sort: Sorted,
     wanted: bool,
@@ -60,24 +61,24 @@ pub fn put_single_steps(
 {
     let kind = kind_of(x.facts.sort);
     match op {
-        Single::Negative => {
+        UnaryOp::Neg => {
             put_with_word(steps, Arithmetic::Mul, kind, 0xffff_ffff_ffff_ffff, d)?;
             put_ending(steps, wanted, true, d)
         }
-        Single::Inverse => {
+        UnaryOp::BitNot => {
             put_with_word(steps, Arithmetic::BitXor, kind, 0xffff_ffff_ffff_ffff, d)?;
             put_ending(steps, wanted, true, d)
         }
-        Single::IsZero => {
+        UnaryOp::Not => {
             put_const(steps, d + 2, 0)?;
             put_compare(steps, Comparison::Equal, kind, d)?;
             put_ending(steps, wanted, true, d)
         }
-        Single::Pointed => {
+        UnaryOp::Deref => {
             put_addressing(steps, x.number, d)?;
             put_read_unless(steps, wanted, Spot::Memory, sort, place, d)
         }
-        Single::AddressOf => put_hidden(steps, x.spot, d),
+        UnaryOp::AddressOf => put_hidden(steps, x.spot, d),
     }
 }
 
@@ -140,7 +141,7 @@ fn put_deciding(steps: &mut Items<FatStep>, on: u32, end: u32, d: u32) -> Result
 /// What stands between the operands.
 pub fn put_between(
     steps: &mut Items<FatStep>,
-    joint: Joint,
+    joint: BinaryOp,
     a: Seen,
     b: Seen,
     first: u32,
@@ -152,22 +153,22 @@ pub fn put_between(
     let from = kind_of(a.facts.sort);
     let other = kind_of(b.facts.sort);
     match joint {
-        Joint::Calculation(op) => {
+        BinaryOp::Arithmetic(op) => {
             if a.number && b.number {
                 put_extending(steps, from, done_in(op, from, other), d)
             } else {
                 Ok(())
             }
         }
-        Joint::Comparison(_) => {
+        BinaryOp::Comparison(_) => {
             if a.number && b.number {
                 put_extending(steps, from, common(from, other), d)
             } else {
                 Ok(())
             }
         }
-        Joint::And => put_parting(steps, first, first + 1, d),
-        Joint::Or => put(steps, FatStep::JumpIf { from: d, n: first }),
+        BinaryOp::Logical(Logical::And) => put_parting(steps, first, first + 1, d),
+        BinaryOp::Logical(Logical::Or) => put(steps, FatStep::JumpIf { from: d, n: first }),
     }
 }
 
@@ -241,7 +242,7 @@ fn put_calculated(
     d: u32,
 ) -> Result<(), OutOfMemory>
     requires { d + 6 ≤ 2 ^ 32 }
-    ensures { OnOk result (steps.new ≡ steps.old ++ behind (Joint.Calculation op) (view_of a) (view_of b) 0 d) }
+    ensures { OnOk result (steps.new ≡ steps.old ++ behind (BinaryOp.Arithmetic op) (view_of a) (view_of b) 0 d) }
 {
     if a.number {
         if b.number {
@@ -267,7 +268,7 @@ fn put_compared(
     d: u32,
 ) -> Result<(), OutOfMemory>
     requires { d + 6 ≤ 2 ^ 32 }
-    ensures { OnOk result (steps.new ≡ steps.old ++ behind (Joint.Comparison op) (view_of a) (view_of b) 0 d) }
+    ensures { OnOk result (steps.new ≡ steps.old ++ behind (BinaryOp.Comparison op) (view_of a) (view_of b) 0 d) }
 {
     if a.number && b.number {
         let from = kind_of(b.facts.sort);
@@ -282,7 +283,7 @@ fn put_compared(
 /// What stands behind the operands.
 pub fn put_behind(
     steps: &mut Items<FatStep>,
-    joint: Joint,
+    joint: BinaryOp,
     a: Seen,
     b: Seen,
     first: u32,
@@ -293,9 +294,9 @@ pub fn put_behind(
     ensures { OnOk result (steps.new ≡ steps.old ++ behind joint (view_of a) (view_of b) first d) }
 {
     match joint {
-        Joint::Calculation(op) => put_calculated(steps, op, a, b, d),
-        Joint::Comparison(op) => put_compared(steps, op, a, b, d),
-        Joint::And => put_deciding(steps, first + 2, first + 1, d),
-        Joint::Or => put_deciding(steps, first, first + 1, d),
+        BinaryOp::Arithmetic(op) => put_calculated(steps, op, a, b, d),
+        BinaryOp::Comparison(op) => put_compared(steps, op, a, b, d),
+        BinaryOp::Logical(Logical::And) => put_deciding(steps, first + 2, first + 1, d),
+        BinaryOp::Logical(Logical::Or) => put_deciding(steps, first, first + 1, d),
     }
 }

@@ -3,7 +3,7 @@
 ghost use Rattle.std.specs.Prelude.{◌≡◌};
 ghost use Rattle.mx_base.specs.Numbers.{is_signed as has_sign, size_of as size_in_bytes};
 ghost use Rattle.c_types.specs.Layouts.{width};
-ghost use Rattle.bounds_plan.specs.ElaborateTypes as spec;
+ghost use Rattle.bounds_plan.specs.elaboration.Types as spec;
 ghost use Rattle.steps_facts.specs.Seen.{kind_in};
 ghost use Rattle.steps_pieces.specs.Own.{choice_of as choice_by};
 ghost use Rattle.steps_pieces.specs.Wanted.{given_number as number_by, loads_number as loads, reads_number as reads};

@@ -20,7 +20,4 @@ pub use forms::{
     put_single, put_stepped, put_text, put_word,
 };
 pub use kinds::{choice_of, given_number, kind_of, loads_number, reads_number};
-pub use operators::{
-    Builtin, Joint, Single, builtin_at, compound_at, gives_number, joint_at, joint_labels,
-    second_at, service_at, single_at, step_operator, takes_place,
-};
+pub use operators::{gives_number, joint_labels, second_at, step_operator, takes_place};

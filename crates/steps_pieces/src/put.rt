@@ -1,7 +1,7 @@
 //! Single steps, and those that turn one value into another.
 
 ghost use Rattle.std.specs.Prelude.{◌≡◌, ◌+◌, ◌≤◌, ◌^◌, ◌++◌, ◌∷◌, [], OnOk};
-ghost use Rattle.bounds_plan.specs.Code.{scaled, offset_by};
+ghost use Rattle.bounds_plan.specs.steps.Code.{scaled, offset_by};
 ghost use Rattle.steps_pieces.specs.Wanted.{addressing, ending, extending, null_at};
 
 use crate::kinds::keeps;

@@ -9,7 +9,7 @@ use Rattle.c_check.specs.Checked.{IsChecked}
 use Rattle.c_check.specs.Symbols.{named}
 use Rattle.place_plan.specs.declared.plans.Plan.{Plan}
 use Rattle.place_plan.specs.Source.{plan_of}
-use Rattle.bounds_plan.specs.ElaborateSource.{Around}
+use Rattle.bounds_plan.specs.elaboration.Source.{Around}
 use Rattle.c_accepted.specs.Alike.{meanings_of}
 use Rattle.c_accepted.specs.Planned.{layout_of_plan}
 use Rattle.steps_structs.specs.declared.known.KnownStruct.{KnownStruct}

@@ -2,7 +2,7 @@
 
 ghost use Rattle.std.specs.Prelude.{◌≡◌, map};
 ghost use Rattle.c_types.specs.Types.{type_at, built};
-ghost use Rattle.bounds_plan.specs.ElaborateFunctions.{in_body};
+ghost use Rattle.bounds_plan.specs.elaboration.Functions.{in_body};
 ghost use Rattle.c_accepted.specs.Planned.{stand_of};
 ghost use Rattle.steps_structs.specs.Structs.{AreKnown, structs_known};
 ghost use Rattle.steps_known.specs.Functions.{AreSorted};

@@ -10,8 +10,8 @@ use Rattle.c_types.specs.declared.shape.Shape.{Shape}
 use Rattle.c_types.specs.declared.shape.Shape.TheVariants as s
 use Rattle.c_types.specs.Types.{CType, StructType, Types, type_at, built}
 use Rattle.c_types.specs.Layouts.{layout_of, next_multiple, CanBuild}
-use Rattle.bounds_plan.specs.Core.{Scalar}
-use Rattle.bounds_plan.specs.ElaborateScalars.{scalar_at, repeated, scalars_of}
+use Rattle.bounds_plan.specs.meaning.Core.{Scalar}
+use Rattle.bounds_plan.specs.elaboration.Scalars.{scalar_at, repeated, scalars_of}
 use Rattle.steps_facts.specs.declared.knows.ScalarAt.{ScalarAt}
 use Rattle.steps_facts.specs.Around.{scalar_of, scalars_seen}
 use Rattle.steps_structs.specs.Scalars.{held, few, moved}

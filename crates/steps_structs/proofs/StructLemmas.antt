@@ -8,8 +8,8 @@ use Rattle.c_types.specs.declared.layout.Layout.{Layout}
 use Rattle.c_types.specs.Types.{CType, StructType, Types, type_at, members_of, IsIn}
 use Rattle.c_types.specs.Layouts.{layout_of_struct}
 use Rattle.steps_structs.specs.declared.known.KnownStruct.{KnownStruct}
-use Rattle.bounds_plan.specs.Core.{Scalar}
-use Rattle.bounds_plan.specs.ElaborateScalars.{scalars_of_struct}
+use Rattle.bounds_plan.specs.meaning.Core.{Scalar}
+use Rattle.bounds_plan.specs.elaboration.Scalars.{scalars_of_struct}
 use Rattle.steps_facts.specs.declared.knows.ScalarAt.{ScalarAt}
 use Rattle.steps_structs.specs.Scalars.{few}
 use Rattle.steps_structs.specs.Structs.{with_known, structs_known, tags_known, kept, scalars_kept, members_kept, members_ids, HasKnown, AreKnown, laid_by, scalars_from}

@@ -1,6 +1,6 @@
 -- The scalars of types, where they are few.
 use Rattle.std.specs.Prelude.{ℕ, ◌+◌, nat_le, if◌then◌else◌, Option, None, Some, List, map, length}
-use Rattle.bounds_plan.specs.Core.{Scalar}
+use Rattle.bounds_plan.specs.meaning.Core.{Scalar}
 use Rattle.steps_facts.specs.declared.knows.ScalarAt.{ScalarAt}
 
 -- the most scalars of a struct that is copied, and of a variable that is initialised

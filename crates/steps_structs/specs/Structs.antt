@@ -5,8 +5,8 @@ use Rattle.c_types.specs.declared.shape.TypeId.{TypeId}
 use Rattle.c_types.specs.declared.layout.Layout.{Layout}
 use Rattle.c_types.specs.Types.{CType, Void, Int, Pointer, Array, Struct, StructType, Types, type_at, members_of, IsIn}
 use Rattle.c_types.specs.Layouts.{no_layout, layout_of, layout_of_struct, struct_layout, offsets_from, next_multiple}
-use Rattle.bounds_plan.specs.Core.{Scalar}
-use Rattle.bounds_plan.specs.ElaborateScalars.{joined_at, scalars_of, scalars_of_struct}
+use Rattle.bounds_plan.specs.meaning.Core.{Scalar}
+use Rattle.bounds_plan.specs.elaboration.Scalars.{joined_at, scalars_of, scalars_of_struct}
 use Rattle.steps_facts.specs.declared.knows.Part.{Part}
 use Rattle.steps_facts.specs.declared.knows.ScalarAt.{ScalarAt}
 use Rattle.steps_structs.specs.declared.known.KnownStruct.{KnownStruct}

@@ -4,7 +4,7 @@ ghost use Rattle.std.specs.Prelude.{◌≡◌, ◌==◌, ◌+◌, ◌&&◌, ◌�
 ghost use Rattle.narrowing.specs.Member.{member_rule};
 ghost use Rattle.c_types.specs.Types.{Types, type_at, IsIn, members_of};
 ghost use Rattle.c_types.specs.Layouts.{layout_of, offsets_from};
-ghost use Rattle.bounds_plan.specs.ElaboratePlaces as spec;
+ghost use Rattle.bounds_plan.specs.elaboration.Places as spec;
 ghost use Rattle.steps_facts.specs.Around.{part_types, part_offsets, IsPart};
 ghost use Rattle.steps_structs.specs.Structs.{AreKnown, structs_known, tags_known, names_known, members_kept, members_ids, parts_from};
 

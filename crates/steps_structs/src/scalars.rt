@@ -3,8 +3,8 @@
 ghost use Rattle.std.specs.Prelude.{◌≡◌, ◌∷◌, ◌++◌, [], List, map, All, IfOk, OnOk, slice_get};
 ghost use Rattle.c_types.specs.Types.{Struct, type_at, built, IsIn};
 ghost use Rattle.c_types.specs.Layouts.{CanBuild};
-ghost use Rattle.bounds_plan.specs.Core.{Scalar};
-ghost use Rattle.bounds_plan.specs.ElaborateScalars as spec;
+ghost use Rattle.bounds_plan.specs.meaning.Core.{Scalar};
+ghost use Rattle.bounds_plan.specs.elaboration.Scalars as spec;
 ghost use Rattle.steps_facts.specs.Around.{scalars_seen};
 ghost use Rattle.steps_structs.specs.Scalars.{few, moved};
 ghost use Rattle.steps_structs.specs.Structs.{AreKnown, structs_known, scalars_kept, scalars_from};

@@ -4,8 +4,8 @@ ghost use Rattle.std.specs.Prelude.{◌≡◌, IfOk};
 ghost use Rattle.c_types.specs.declared.shape.TypeId.{TypeId as TypeNumber};
 ghost use Rattle.c_types.specs.Types.{CType, type_at, built, IsIn};
 ghost use Rattle.c_types.specs.Layouts.{CanBuild};
-ghost use Rattle.bounds_plan.specs.ElaborateTypes as spec;
-ghost use Rattle.bounds_plan.specs.ElaboratePlaces as place;
+ghost use Rattle.bounds_plan.specs.elaboration.Types as spec;
+ghost use Rattle.bounds_plan.specs.elaboration.Places as place;
 ghost use Rattle.steps_facts.specs.Seen.{sorted as sort_of_sort, facts_of};
 ghost use Rattle.steps_structs.specs.Structs.{AreKnown, structs_known};
 

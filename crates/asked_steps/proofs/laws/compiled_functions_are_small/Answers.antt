@@ -1,5 +1,5 @@
 use Rattle.std.proofs.Common.{arith}
-use Rattle.bounds_plan.specs.Code.{fat_function}
+use Rattle.bounds_plan.specs.steps.Code.{fat_function}
 use Rattle.asked_steps.proofs.Limits.{function_limited}
 use Rattle.asked_steps.proofs.Nodes.{function_few}
 use Rattle.asked_steps.proofs.Sizes.{steps_short, few_places}

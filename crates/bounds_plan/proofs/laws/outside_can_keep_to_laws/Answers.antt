@@ -1,4 +1,4 @@
-use Rattle.bounds_plan.specs.Laws.{NoMoreTurns, OutputGrows, Judged, OnlyWrites, InPieces}
+use Rattle.bounds_plan.specs.laws.Laws.{NoMoreTurns, OutputGrows, Judged, OnlyWrites, InPieces}
 use Rattle.bounds_plan.proofs.Runs.{kept-taking_turn}
 use Rattle.bounds_plan.proofs.Worlds.{fewer, longer, judged, only, pieces}
 use Rattle.bounds_plan.proofs.RootedCalls.{rooted-passed-on}

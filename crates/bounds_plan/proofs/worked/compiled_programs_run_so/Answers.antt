@@ -10,7 +10,7 @@ use Rattle.mx_base.specs.BoundsStore.{touched_with, keep_bounds, load_bounds, bo
 use Rattle.mx_base.specs.Heap.{rounded, allocated, freed}
 use Rattle.mx_base.specs.Services.{served, c_service}
 use Rattle.mx_base.specs.World.{pointer_written, pointer_read}
-use Rattle.bounds_plan.specs.Expressions.{stepped}
+use Rattle.bounds_plan.specs.meaning.Expressions.{stepped}
 use Rattle.bounds_plan.proofs.worked.compiled_programs_run_so.Goals as goal
 
 pub returns-clause-prints : goal.returns-clause-prints

@@ -1,6 +1,6 @@
 use Rattle.std.proofs.Common.{◌∙◌, Some, sym, ap}
 use Rattle.c_tree.specs.declared.tree.ExprKind.TheVariants as v
-use Rattle.bounds_plan.specs.ElaborateExpressions.{expression}
+use Rattle.bounds_plan.specs.elaboration.Expressions.{expression}
 use Rattle.steps_facts.specs.Seen.{view_of, reached_of}
 use Rattle.steps_pieces.specs.Put.{put_of}
 use Rattle.c_look.proofs.Looked.{word_law, text_law, name_law, single_law, joint_law, assign_law, step_law, choice_law, call_law, index_law, member_law, arrow_law, cast_law, size_law, sizeof_law}
@@ -26,23 +26,23 @@ pub emit-returns-in_ok-put_name-in-Var-clause-seen : goal.emit-returns-in_ok-put
 emit-returns-in_ok-put_name-in-Var-clause-seen g t c = name_law c.args.e.now _ (g.K.Knows.around c.args.known.now) (reached_of c.args.r) (view_of c.in_ok-own-in-Var.own) c.in-Var.is c.in_ok-own-in-Var.ensures
 
 pub emit-returns-in_ok-put_single-in-Unary-clause-put : goal.emit-returns-in_ok-put_single-in-Unary-clause-put
-emit-returns-in_ok-put_single-in-Unary-clause-put g t c = single_walk c.args.e.now c.in-Unary.op c.get-operand.result.now (g.K.Knows.around c.args.known.now) (reached_of c.args.r) c.args.place _ c.args.d _ (view_of c.in_ok-x-in-Unary.x) (view_of c.in_ok-own-in-Unary.own) (put_of c.args.out.now) _ _
-    (c.in-Unary.is ∙ ap (λ x. v.Unary c.in-Unary.op x) (sym c.get-operand.ensures)) c.single_at-single.ensures c.takes_place.ensures c.in_ok-x-in-Unary.ensures.seen c.in_ok-own-in-Unary.ensures c.in_ok-x-in-Unary.ensures.put c.in_ok-put_single-in-Unary.ensures
+emit-returns-in_ok-put_single-in-Unary-clause-put g t c = single_walk c.args.e.now c.in-Unary.op c.get-operand.result.now (g.K.Knows.around c.args.known.now) (reached_of c.args.r) c.args.place _ c.args.d (view_of c.in_ok-x-in-Unary.x) (view_of c.in_ok-own-in-Unary.own) (put_of c.args.out.now) _ _
+    (c.in-Unary.is ∙ ap (λ x. v.Unary c.in-Unary.op x) (sym c.get-operand.ensures)) c.takes_place.ensures c.in_ok-x-in-Unary.ensures.seen c.in_ok-own-in-Unary.ensures c.in_ok-x-in-Unary.ensures.put c.in_ok-put_single-in-Unary.ensures
 
 pub emit-returns-in_ok-put_single-in-Unary-clause-seen : goal.emit-returns-in_ok-put_single-in-Unary-clause-seen
-emit-returns-in_ok-put_single-in-Unary-clause-seen g t c = single_law c.args.e.now c.in-Unary.op c.get-operand.result.now (g.K.Knows.around c.args.known.now) (reached_of c.args.r) _ (view_of c.in_ok-x-in-Unary.x) (view_of c.in_ok-own-in-Unary.own) (c.in-Unary.is ∙ ap (λ x. v.Unary c.in-Unary.op x) (sym c.get-operand.ensures)) c.single_at-single.ensures c.in_ok-x-in-Unary.ensures.seen c.in_ok-own-in-Unary.ensures
+emit-returns-in_ok-put_single-in-Unary-clause-seen g t c = single_law c.args.e.now c.in-Unary.op c.get-operand.result.now (g.K.Knows.around c.args.known.now) (reached_of c.args.r) (view_of c.in_ok-x-in-Unary.x) (view_of c.in_ok-own-in-Unary.own) (c.in-Unary.is ∙ ap (λ x. v.Unary c.in-Unary.op x) (sym c.get-operand.ensures)) c.in_ok-x-in-Unary.ensures.seen c.in_ok-own-in-Unary.ensures
 
 pub emit-returns-in_ok-put_joined-in-Binary-clause-put : goal.emit-returns-in_ok-put_joined-in-Binary-clause-put
-emit-returns-in_ok-put_joined-in-Binary-clause-put g t c = binary_walk c.args.e.now c.in-Binary.op c.get-left.result.now c.get-right.result.now (g.K.Knows.around c.args.known.now) (reached_of c.args.r) c.args.place c.args.d _ _ _ _ (view_of c.in_ok-x-in-Binary.x) (view_of c.in_ok-y-in-Binary.y) (view_of c.in_ok-own-in-Binary.own) (put_of c.args.out.now) _ _ _ _ _
-    (c.in-Binary.is ∙ ap (λ x. v.Binary c.in-Binary.op x c.in-Binary.b) (sym c.get-left.ensures) ∙ ap (λ x. v.Binary c.in-Binary.op c.get-left.result.now x) (sym c.get-right.ensures)) c.joint_at-joint.ensures c.joint_labels.ensures.labels c.second_at.ensures c.in_ok-first-in-Binary.ensures.first
+emit-returns-in_ok-put_joined-in-Binary-clause-put g t c = binary_walk c.args.e.now c.in-Binary.op c.get-left.result.now c.get-right.result.now (g.K.Knows.around c.args.known.now) (reached_of c.args.r) c.args.place c.args.d _ _ _ (view_of c.in_ok-x-in-Binary.x) (view_of c.in_ok-y-in-Binary.y) (view_of c.in_ok-own-in-Binary.own) (put_of c.args.out.now) _ _ _ _ _
+    (c.in-Binary.is ∙ ap (λ x. v.Binary c.in-Binary.op x c.in-Binary.b) (sym c.get-left.ensures) ∙ ap (λ x. v.Binary c.in-Binary.op c.get-left.result.now x) (sym c.get-right.ensures)) c.joint_labels.ensures.labels c.second_at.ensures c.in_ok-first-in-Binary.ensures.first
     c.in_ok-x-in-Binary.ensures.seen c.in_ok-y-in-Binary.ensures
-    (joint_law c.args.e.now c.in-Binary.op c.get-left.result.now c.get-right.result.now (g.K.Knows.around c.args.known.now) (reached_of c.args.r) _ (view_of c.in_ok-x-in-Binary.x) (view_of c.in_ok-y-in-Binary.y) (view_of c.in_ok-own-in-Binary.own)
-    (c.in-Binary.is ∙ ap (λ x. v.Binary c.in-Binary.op x c.in-Binary.b) (sym c.get-left.ensures) ∙ ap (λ x. v.Binary c.in-Binary.op c.get-left.result.now x) (sym c.get-right.ensures)) c.joint_at-joint.ensures c.in_ok-x-in-Binary.ensures.seen c.in_ok-y-in-Binary.ensures c.in_ok-own-in-Binary.ensures)
+    (joint_law c.args.e.now c.in-Binary.op c.get-left.result.now c.get-right.result.now (g.K.Knows.around c.args.known.now) (reached_of c.args.r) (view_of c.in_ok-x-in-Binary.x) (view_of c.in_ok-y-in-Binary.y) (view_of c.in_ok-own-in-Binary.own)
+    (c.in-Binary.is ∙ ap (λ x. v.Binary c.in-Binary.op x c.in-Binary.b) (sym c.get-left.ensures) ∙ ap (λ x. v.Binary c.in-Binary.op c.get-left.result.now x) (sym c.get-right.ensures)) c.in_ok-x-in-Binary.ensures.seen c.in_ok-y-in-Binary.ensures c.in_ok-own-in-Binary.ensures)
     c.in_ok-first-in-Binary.ensures.put c.in_ok-x-in-Binary.ensures.put c.in_ok-put_joint-in-Binary.ensures c.in_ok-emit-in-Binary.ensures.put c.in_ok-put_joined-in-Binary.ensures
 
 pub emit-returns-in_ok-put_joined-in-Binary-clause-seen : goal.emit-returns-in_ok-put_joined-in-Binary-clause-seen
-emit-returns-in_ok-put_joined-in-Binary-clause-seen g t c = joint_law c.args.e.now c.in-Binary.op c.get-left.result.now c.get-right.result.now (g.K.Knows.around c.args.known.now) (reached_of c.args.r) _ (view_of c.in_ok-x-in-Binary.x) (view_of c.in_ok-y-in-Binary.y) (view_of c.in_ok-own-in-Binary.own)
-    (c.in-Binary.is ∙ ap (λ x. v.Binary c.in-Binary.op x c.in-Binary.b) (sym c.get-left.ensures) ∙ ap (λ x. v.Binary c.in-Binary.op c.get-left.result.now x) (sym c.get-right.ensures)) c.joint_at-joint.ensures c.in_ok-x-in-Binary.ensures.seen c.in_ok-y-in-Binary.ensures c.in_ok-own-in-Binary.ensures
+emit-returns-in_ok-put_joined-in-Binary-clause-seen g t c = joint_law c.args.e.now c.in-Binary.op c.get-left.result.now c.get-right.result.now (g.K.Knows.around c.args.known.now) (reached_of c.args.r) (view_of c.in_ok-x-in-Binary.x) (view_of c.in_ok-y-in-Binary.y) (view_of c.in_ok-own-in-Binary.own)
+    (c.in-Binary.is ∙ ap (λ x. v.Binary c.in-Binary.op x c.in-Binary.b) (sym c.get-left.ensures) ∙ ap (λ x. v.Binary c.in-Binary.op c.get-left.result.now x) (sym c.get-right.ensures)) c.in_ok-x-in-Binary.ensures.seen c.in_ok-y-in-Binary.ensures c.in_ok-own-in-Binary.ensures
 
 pub emit-returns-in_ok-left-in-Assign-clause-put : goal.emit-returns-in_ok-left-in-Assign-clause-put
 emit-returns-in_ok-left-in-Assign-clause-put g t c = copy_walk c.args.e.now c.in-Assign.op c.get-target.result.now c.get-source.result.now (g.K.Knows.around c.args.known.now) (reached_of c.args.r) c.args.place c.args.d (view_of c.in_ok-x-in-Assign.x) (put_of c.args.out.now) _
@@ -53,9 +53,9 @@ emit-returns-in_ok-left-in-Assign-clause-seen g t c = assign_law c.args.e.now c.
     (c.in-Assign.is ∙ ap (λ x. v.Assign c.in-Assign.op x c.in-Assign.b) (sym c.get-target.ensures) ∙ ap (λ x. v.Assign c.in-Assign.op c.get-target.result.now x) (sym c.get-source.ensures)) c.in_ok-x-in-Assign.ensures.seen c.in_ok-z-in-Assign.ensures c.in_ok-left-in-Assign.ensures
 
 pub emit-returns-in_ok-put_assigned-in-Assign-clause-put : goal.emit-returns-in_ok-put_assigned-in-Assign-clause-put
-emit-returns-in_ok-put_assigned-in-Assign-clause-put g t c = assign_walk c.args.e.now c.in-Assign.op c.get-target.result.now c.get-source.result.now (g.K.Knows.around c.args.known.now) (reached_of c.args.r) c.args.place c.args.d _ _ _ (view_of c.in_ok-x-in-Assign.x) (view_of c.in_ok-y-in-Assign.y) (put_of c.args.out.now) _ _ _
+emit-returns-in_ok-put_assigned-in-Assign-clause-put g t c = assign_walk c.args.e.now c.in-Assign.op c.get-target.result.now c.get-source.result.now (g.K.Knows.around c.args.known.now) (reached_of c.args.r) c.args.place c.args.d _ _ (view_of c.in_ok-x-in-Assign.x) (view_of c.in_ok-y-in-Assign.y) (put_of c.args.out.now) _ _ _
     (c.in-Assign.is ∙ ap (λ x. v.Assign c.in-Assign.op x c.in-Assign.b) (sym c.get-target.ensures) ∙ ap (λ x. v.Assign c.in-Assign.op c.get-target.result.now x) (sym c.get-source.ensures)) c.in_ok-x-in-Assign.ensures.seen c.in_ok-y-in-Assign.ensures.seen (sym c.is_copied-copied.ensures ∙ c.if-copied.false)
-    c.assigned_sort-to.ensures c.value_at.ensures c.operator_for.ensures c.in_ok-x-in-Assign.ensures.put c.in_ok-y-in-Assign.ensures.put c.in_ok-put_assigned-in-Assign.ensures
+    c.assigned_sort-to.ensures c.value_at.ensures c.in_ok-x-in-Assign.ensures.put c.in_ok-y-in-Assign.ensures.put c.in_ok-put_assigned-in-Assign.ensures
 
 pub emit-returns-in_ok-put_assigned-in-Assign-clause-seen : goal.emit-returns-in_ok-put_assigned-in-Assign-clause-seen
 emit-returns-in_ok-put_assigned-in-Assign-clause-seen g t c = assign_law c.args.e.now c.in-Assign.op c.get-target.result.now c.get-source.result.now (g.K.Knows.around c.args.known.now) (reached_of c.args.r) (view_of c.in_ok-x-in-Assign.x) (view_of c.in_ok-y-in-Assign.y) (view_of c.in_ok-own-in-Assign.own)

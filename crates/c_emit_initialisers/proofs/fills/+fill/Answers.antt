@@ -2,7 +2,7 @@ use Rattle.std.proofs.Common.{◌∙◌, ◌+◌, ap, refl, subst, arith}
 use Rattle.std.specs.Prelude.{All}
 use Rattle.std.proofs.lemmas.List.Elements.{All-tail}
 use Rattle.c_types.specs.Types.{type_at}
-use Rattle.bounds_plan.specs.ElaborateTypes.{size_in}
+use Rattle.bounds_plan.specs.elaboration.Types.{size_in}
 use Rattle.steps_facts.specs.declared.seen.Facts.{Facts}
 use Rattle.steps_facts.specs.Seen.{reached_of}
 use Rattle.steps_facts.specs.Around.{standing_at, IsPart}

@@ -1,9 +1,9 @@
 use Rattle.std.proofs.Common.{◌≡◌, drop, map}
 use Rattle.std.specs.Prelude.{All}
 use Rattle.c_types.specs.Types.{type_at}
-use Rattle.bounds_plan.specs.ElaborateTypes.{size_in}
-use Rattle.bounds_plan.specs.ElaborateExpressions.{expression}
-use Rattle.bounds_plan.specs.ElaborateInitialisers.{initialiser, elements_filled, members_filled}
+use Rattle.bounds_plan.specs.elaboration.Types.{size_in}
+use Rattle.bounds_plan.specs.elaboration.Expressions.{expression}
+use Rattle.bounds_plan.specs.elaboration.Initialisers.{initialiser, elements_filled, members_filled}
 use Rattle.steps_facts.specs.Seen.{reached_of}
 use Rattle.steps_facts.specs.Around.{standing_at, part_types, part_offsets, IsPart}
 use Rattle.steps_pieces.specs.Put.{put_of}

@@ -1,5 +1,5 @@
 use Rattle.c_types.specs.Types.{type_at}
-use Rattle.bounds_plan.specs.ElaborateExpressions.{expression}
+use Rattle.bounds_plan.specs.elaboration.Expressions.{expression}
 use Rattle.steps_facts.specs.Seen.{reached_of}
 use Rattle.steps_pieces.specs.Put.{put_of}
 use Rattle.c_emit.proofs.Walks.{on_ok}

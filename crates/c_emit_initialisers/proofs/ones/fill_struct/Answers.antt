@@ -1,5 +1,5 @@
 use Rattle.std.proofs.Common.{◌∙◌, ap}
-use Rattle.bounds_plan.specs.ElaborateExpressions.{expression}
+use Rattle.bounds_plan.specs.elaboration.Expressions.{expression}
 use Rattle.steps_facts.specs.Seen.{view_of, reached_of}
 use Rattle.steps_facts.specs.Around.{scalars_seen}
 use Rattle.steps_pieces.specs.Put.{put_of}

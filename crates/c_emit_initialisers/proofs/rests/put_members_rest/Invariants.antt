@@ -1,5 +1,5 @@
 use Rattle.std.proofs.Common.{◌≡◌, drop}
-use Rattle.bounds_plan.specs.ElaborateInitialisers.{member_zeros}
+use Rattle.bounds_plan.specs.elaboration.Initialisers.{member_zeros}
 use Rattle.steps_facts.specs.Around.{standing_at, part_types, part_offsets}
 use Rattle.steps_pieces.specs.Put.{put_of}
 use Rattle.steps_filling.specs.Effects.{went_effects}

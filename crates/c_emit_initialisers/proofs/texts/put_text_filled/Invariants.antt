@@ -1,5 +1,5 @@
 use Rattle.std.proofs.Common.{◌≡◌}
-use Rattle.bounds_plan.specs.ElaborateInitialisers.{text_filled}
+use Rattle.bounds_plan.specs.elaboration.Initialisers.{text_filled}
 use Rattle.steps_facts.specs.Around.{standing_at}
 use Rattle.steps_pieces.specs.Put.{put_of}
 use Rattle.steps_filling.specs.Effects.{went_effects}

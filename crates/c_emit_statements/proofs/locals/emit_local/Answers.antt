@@ -1,6 +1,6 @@
 use Rattle.std.proofs.Common.{◌∙◌, ap, map}
-use Rattle.bounds_plan.specs.ElaborateExpressions.{expression, find_all}
-use Rattle.bounds_plan.specs.ElaborateStatements.{past_counts}
+use Rattle.bounds_plan.specs.elaboration.Expressions.{expression, find_all}
+use Rattle.bounds_plan.specs.elaboration.Statements.{past_counts}
 use Rattle.c_types.specs.Types.{type_at}
 use Rattle.steps_facts.specs.Seen.{reached_of}
 use Rattle.steps_facts.specs.Around.{standing_at}

@@ -1,5 +1,5 @@
 use Rattle.std.proofs.Common.{◌≡◌, map, drop}
-use Rattle.bounds_plan.specs.ElaborateStatements.{all_stated}
+use Rattle.bounds_plan.specs.elaboration.Statements.{all_stated}
 use Rattle.steps_facts.specs.Seen.{reached_of}
 use Rattle.steps_pieces.specs.Put.{put_of}
 use Rattle.c_emit_statements.specs.Bodies.{statement, went_statement}

@@ -18,13 +18,13 @@ look-returns-in-Var g t c = if_ok c.name_seen.result _ _
 
 pub look-returns-in_ok-x-in-Unary : goal.look-returns-in_ok-x-in-Unary
 look-returns-in_ok-x-in-Unary g t c = if_ok c.single_seen.result _ _
-    (λ s h. single_law c.args.e.now c.in-Unary.op c.get-operand.result.now (g.K.Knows.around c.args.known.now) (reached_of c.args.r) _ (view_of c.in_ok-x-in-Unary.x) (view_of s)
-    (c.in-Unary.is ∙ ap (λ x. v.Unary c.in-Unary.op x) (sym c.get-operand.ensures)) c.single_at.ensures c.in_ok-x-in-Unary.ensures h) c.single_seen.ensures
+    (λ s h. single_law c.args.e.now c.in-Unary.op c.get-operand.result.now (g.K.Knows.around c.args.known.now) (reached_of c.args.r) (view_of c.in_ok-x-in-Unary.x) (view_of s)
+    (c.in-Unary.is ∙ ap (λ x. v.Unary c.in-Unary.op x) (sym c.get-operand.ensures)) c.in_ok-x-in-Unary.ensures h) c.single_seen.ensures
 
 pub look-returns-in_ok-y-in-Binary : goal.look-returns-in_ok-y-in-Binary
 look-returns-in_ok-y-in-Binary g t c = if_ok c.joint_seen.result _ _
-    (λ s h. joint_law c.args.e.now c.in-Binary.op c.get-left.result.now c.get-right.result.now (g.K.Knows.around c.args.known.now) (reached_of c.args.r) _ (view_of c.in_ok-x-in-Binary.x) (view_of c.in_ok-y-in-Binary.y) (view_of s)
-    (c.in-Binary.is ∙ ap (λ x. v.Binary c.in-Binary.op x c.in-Binary.b) (sym c.get-left.ensures) ∙ ap (λ x. v.Binary c.in-Binary.op c.get-left.result.now x) (sym c.get-right.ensures)) c.joint_at.ensures c.in_ok-x-in-Binary.ensures c.in_ok-y-in-Binary.ensures h) c.joint_seen.ensures
+    (λ s h. joint_law c.args.e.now c.in-Binary.op c.get-left.result.now c.get-right.result.now (g.K.Knows.around c.args.known.now) (reached_of c.args.r) (view_of c.in_ok-x-in-Binary.x) (view_of c.in_ok-y-in-Binary.y) (view_of s)
+    (c.in-Binary.is ∙ ap (λ x. v.Binary c.in-Binary.op x c.in-Binary.b) (sym c.get-left.ensures) ∙ ap (λ x. v.Binary c.in-Binary.op c.get-left.result.now x) (sym c.get-right.ensures)) c.in_ok-x-in-Binary.ensures c.in_ok-y-in-Binary.ensures h) c.joint_seen.ensures
 
 pub look-returns-in_ok-y-in-Assign : goal.look-returns-in_ok-y-in-Assign
 look-returns-in_ok-y-in-Assign g t c = if_ok c.assigned_seen.result _ _

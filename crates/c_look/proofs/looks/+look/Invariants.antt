@@ -1,5 +1,5 @@
 use Rattle.std.proofs.Common.{◌≡◌, map, drop}
-use Rattle.bounds_plan.specs.ElaborateExpressions.{expression, find_all}
+use Rattle.bounds_plan.specs.elaboration.Expressions.{expression, find_all}
 use Rattle.steps_facts.specs.Seen.{reached_of}
 use Rattle.c_look.proofs.looks.+look.Given as goal
 

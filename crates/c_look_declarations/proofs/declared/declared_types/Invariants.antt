@@ -1,8 +1,8 @@
 use Rattle.std.proofs.Common.{◌≡◌, ◌++◌, drop, map}
 use Rattle.std.specs.Prelude.{All}
 use Rattle.c_types.specs.Types.{type_at, IsIn}
-use Rattle.bounds_plan.specs.ElaborateExpressions.{expression}
-use Rattle.bounds_plan.specs.ElaborateFunctions.{declared_all}
+use Rattle.bounds_plan.specs.elaboration.Expressions.{expression}
+use Rattle.bounds_plan.specs.elaboration.Functions.{declared_all}
 use Rattle.steps_facts.specs.Seen.{reached_of}
 use Rattle.c_look_declarations.specs.Past.{past_by}
 use Rattle.c_look_declarations.proofs.declared.declared_types.Given as goal

@@ -2,9 +2,9 @@ use Rattle.std.proofs.Common.{◌≡◌, ◌+◌, ◌*◌, ℕ, drop, map}
 use Rattle.std.specs.Prelude.{All}
 use Rattle.mx_base.specs.declared.places.Place.{Place}
 use Rattle.c_types.specs.Types.{type_at}
-use Rattle.bounds_plan.specs.ElaboratePlaces.{Lvalue}
-use Rattle.bounds_plan.specs.ElaborateExpressions.{expression}
-use Rattle.bounds_plan.specs.ElaborateInitialisers.{initialiser, elements_filled, members_filled}
+use Rattle.bounds_plan.specs.elaboration.Places.{Lvalue}
+use Rattle.bounds_plan.specs.elaboration.Expressions.{expression}
+use Rattle.bounds_plan.specs.elaboration.Initialisers.{initialiser, elements_filled, members_filled}
 use Rattle.steps_facts.specs.Seen.{reached_of}
 use Rattle.steps_facts.specs.Around.{part_types, part_offsets, IsPart}
 use Rattle.c_look_declarations.proofs.pasts.+past.Given as goal

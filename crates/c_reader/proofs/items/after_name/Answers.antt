@@ -1,7 +1,7 @@
 use Rattle.std.proofs.Common.{List, sym, subst}
 use Rattle.c_tree.specs.declared.tree.Item.{Item}
 use Rattle.c_grammar.specs.Reading.{Out}
-use Rattle.c_expressions.specs.Gives.{Gives}
+use Rattle.parse_expressions.specs.Gives.{Gives}
 use Rattle.c_reader.proofs.Sources as proof
 use Rattle.c_reader.proofs.items.after_name.Goals as goal
 

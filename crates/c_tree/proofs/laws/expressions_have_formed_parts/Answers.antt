@@ -6,9 +6,6 @@ use Rattle.c_tree.proofs.laws.expressions_have_formed_parts.Goals as goal
 pub returns-clause-text : goal.returns-clause-text
 returns-clause-text c = λ place bytes. search (rules, the_lemmas)
 
-pub returns-clause-assign : goal.returns-clause-assign
-returns-clause-assign c = λ place a b. search (rules, the_lemmas)
-
 pub returns-clause-step_by : goal.returns-clause-step_by
 returns-clause-step_by c = λ place up before a. search (rules, the_lemmas)
 

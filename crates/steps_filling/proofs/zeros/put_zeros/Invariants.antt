@@ -1,6 +1,6 @@
 use Rattle.std.proofs.Common.{◌≡◌, map, drop}
-use Rattle.bounds_plan.specs.ElaborateScalars.{scalar_at}
-use Rattle.bounds_plan.specs.ElaborateInitialisers.{zero_written}
+use Rattle.bounds_plan.specs.elaboration.Scalars.{scalar_at}
+use Rattle.bounds_plan.specs.elaboration.Initialisers.{zero_written}
 use Rattle.steps_facts.specs.Around.{standing_at, scalars_seen}
 use Rattle.steps_pieces.specs.Put.{put_of}
 use Rattle.steps_filling.specs.Effects.{went_effects}

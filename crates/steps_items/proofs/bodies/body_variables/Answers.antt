@@ -6,8 +6,8 @@ use Rattle.c_types.specs.declared.shape.TypeId.{TypeId}
 use Rattle.c_types.specs.Types.{type_at, IsIn}
 use Rattle.c_check.specs.Accepted.{after}
 use Rattle.place_plan.specs.declared.plans.Plan.{Plan}
-use Rattle.bounds_plan.specs.ElaborateStatements.{declarations}
-use Rattle.bounds_plan.specs.ElaborateFunctions.{no_frame}
+use Rattle.bounds_plan.specs.elaboration.Statements.{declarations}
+use Rattle.bounds_plan.specs.elaboration.Functions.{no_frame}
 use Rattle.c_accepted.specs.Planned.{stand_of, layout_frame}
 use Rattle.steps_structs.specs.Structs.{structs_known}
 use Rattle.steps_known.specs.Standings.{standings_from}

@@ -1,5 +1,5 @@
 use Rattle.std.proofs.Common.{◌≡◌, ◌+◌, map, drop}
-use Rattle.bounds_plan.specs.ElaborateStatements.{declarations, total}
+use Rattle.bounds_plan.specs.elaboration.Statements.{declarations, total}
 use Rattle.steps_items.proofs.counts.+declares.Given as goal
 
 abbrev pub invariant-of_all-loop-one : goal.invariant-of_all-loop-one

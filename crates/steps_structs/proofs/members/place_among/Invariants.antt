@@ -1,5 +1,5 @@
 use Rattle.std.proofs.Common.{◌≡◌, ◌+◌, drop}
-use Rattle.bounds_plan.specs.ElaboratePlaces.{place_among}
+use Rattle.bounds_plan.specs.elaboration.Places.{place_among}
 use Rattle.steps_structs.proofs.members.place_among.Given as goal
 
 abbrev pub invariant-loop-one : goal.invariant-loop-one

@@ -1,5 +1,5 @@
 use Rattle.std.proofs.Common.{◌≡◌, ◌++◌, ◌-◌, ◌*◌}
-use Rattle.bounds_plan.specs.ElaborateScalars.{repeated}
+use Rattle.bounds_plan.specs.elaboration.Scalars.{repeated}
 use Rattle.steps_facts.specs.Around.{scalars_seen}
 use Rattle.steps_structs.proofs.scalars.repeated.Given as goal
 

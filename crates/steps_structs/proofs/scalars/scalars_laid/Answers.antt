@@ -1,6 +1,6 @@
 use Rattle.std.proofs.Common.{refl, sym, ap, ◌∙◌, ◌+◌, ◌++◌, map, arith, length, slice_index_or}
 use Rattle.std.proofs.lemmas.List.{length-append, length-map}
-use Rattle.bounds_plan.specs.ElaborateScalars.{scalars_of}
+use Rattle.bounds_plan.specs.elaboration.Scalars.{scalars_of}
 use Rattle.steps_structs.specs.Scalars.{few, moved}
 use Rattle.steps_structs.specs.Structs.{structs_known}
 use Rattle.steps_structs.proofs.ScalarLemmas.{members_on, members_ended}
