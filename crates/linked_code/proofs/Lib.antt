@@ -4,3 +4,4 @@ pub mod Same
 pub mod Going
 pub mod Labels
 pub mod Linker
+pub mod Fields

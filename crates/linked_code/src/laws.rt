@@ -1,16 +1,17 @@
 //! Laws of linked code. Each function does nothing, and its contract is the law.
 
-ghost use Rattle.std.specs.Prelude.{◌≡◌, ◌+◌, ◌++◌, ℕ, Bool, true, false, Option, List, length, map};
+ghost use Rattle.std.specs.Prelude.{◌≡◌, ◌≤◌, ◌+◌, ◌++◌, ℕ, Bool, true, false, Option, List, length, map};
 ghost use Rattle.std.specs.List.{All, fold};
 ghost use Rattle.mx_base.specs.StopOfC.{AccessOfC};
 ghost use Rattle.fat_ir.specs.declared.program.FatFun.{FatFun};
+ghost use Rattle.fat_ir.specs.declared.step.FatStep.{FatStep};
 ghost use Rattle.fat_ir.specs.Functions.{Parameter};
 ghost use Rattle.obj_file.specs.declared.object.Object.{Object};
 ghost use Rattle.step_code.specs.Steps.{Plan};
 ghost use Rattle.step_code.specs.Functions.{bytes_of_function, steps_at, return_at};
 ghost use Rattle.step_code.specs.Bytes.{places_of_steps, AllHere};
 ghost use Rattle.code_emit.specs.declared.fields.Field.{Field};
-ghost use Rattle.code_emit.specs.Unlinked.{unlinked_function, function_labels};
+ghost use Rattle.code_emit.specs.Unlinked.{unlinked_function, function_labels, fields_of_steps};
 ghost use Rattle.linked_code.specs.Filled.{fix_of, fixes_of_function, with_symbols, unlinked_plan, linked_layout};
 ghost use Rattle.linked_code.specs.Filled.{Fits, all_filled, seen_in};
 ghost use Rattle.linked_code.specs.Labelled.{LabelsFit, Tells};
@@ -58,4 +59,9 @@ pub fn the_linker_fills_fields_so()
     ensures { (os : List Object) (link : Link) (object : ℕ) (o : Object) (bytes : List ℕ) (fields : List Field) → o.legacy ≡ false
         → fold (fixed os link object o 1) bytes (map fix_of fields)
         ≡ all_filled (spot_of link object).code (seen_in os link object true) (seen_in os link object false) bytes (map fix_of fields) }
+{}
+
+/// Steps have at most as many fields that the linker fills as they are: one for a call, and one where a symbol's address is placed.
+pub fn steps_have_few_fix_ups()
+    ensures { (p : Plan) (at : ℕ) (steps : List FatStep) → length (fields_of_steps p at steps) ≤ length steps }
 {}

@@ -5,5 +5,5 @@ mod laws;
 
 pub use laws::{
     linked_code_is_the_code_of_its_function, linked_labels_are_where_they_stand,
-    the_linker_fills_fields_so,
+    steps_have_few_fix_ups, the_linker_fills_fields_so,
 };
