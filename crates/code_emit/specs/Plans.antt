@@ -10,7 +10,7 @@ use Rattle.code_emit.specs.declared.plan.FunctionPlan.{FunctionPlan}
 -- before linking each symbol stands at 0
 abbrev pub plan_of : FunctionPlan → Plan
 plan_of q = record {
-  home = λ v. slice_index_or q.homes.now v (Reg 6);
+  home = λ v. slice_index_or q.homes.now v (Reg 7);
   is_bounds = λ v. slice_index_or q.bounds.now v false;
   spare = q.spare;
   exit = q.exit;

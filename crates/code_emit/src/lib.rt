@@ -17,5 +17,5 @@ pub use entry::{end, inner_entry, inner_return};
 pub use fields::{Field, note_fields};
 pub use function::{note_labels, place_labels, put_function, put_steps, steps_at};
 pub use homing::{Parameter, put_homing};
-pub use plan::FunctionPlan;
+pub use plan::{CompiledFunction, FunctionPlan};
 pub use steps::lower_step;

@@ -3,7 +3,19 @@
 ghost use Rattle.std.specs.Prelude.{◌≡◌, false, slice_index_or};
 ghost use Rattle.code_emit.specs.Plans.{plan_of};
 
+use crate::homing::Parameter;
+use fat_ir::FatFun;
+use sqlite_items::Items;
 use step_code::Home;
+
+/// A function that is compiled to steps, its parameters, and whether it gives a pointer.
+#[derive(Drop)]
+pub struct CompiledFunction {
+    /// Its name is the number of its symbol in the unit's list of symbols.
+    pub fun: FatFun,
+    pub parameters: Items<Parameter>,
+    pub pointer: bool,
+}
 
 /// What the code of a function goes by.
 #[derive(Clone, Copy)]
@@ -28,7 +40,7 @@ pub fn home(p: &FunctionPlan, v: u32) -> Home
 {
     match p.homes.get(v as usize) {
         Some(home) => *home,
-        None => Home::Reg(6),
+        None => Home::Reg(7),
     }
 }
 
