@@ -21,43 +21,43 @@ use Rattle.linked_code.proofs.Bytes.{all_each, each_front, each_behind}
 use Rattle.linked_code.proofs.Same.{same_homing}
 use Rattle.linked_code.proofs.Going.{step_goes, steps_go, fields_first}
 
-zeros : ℕ → List ℕ
+pub zeros : ℕ → List ℕ
 zeros zero = []
 zeros (suc n) = 0 ∷ zeros n
 
-length_zeros : (n : ℕ) → length (zeros n) ≡ n
+pub length_zeros : (n : ℕ) → length (zeros n) ≡ n
 unfolding zeros
 length_zeros zero = refl
 length_zeros (suc n) = ap suc (length_zeros n)
 
-further : (code at there m n : ℕ) → there ≡ code + at → m ≡ n → there + n ≡ code + (at + m)
+pub further : (code at there m n : ℕ) → there ≡ code + at → m ≡ n → there + n ≡ code + (at + m)
 further code at there m n is same = omega (arith, is, same)
 
-steps_there : (code at a m n : ℕ) → m ≡ n → code + at + a + n ≡ code + (at + a + m)
+pub steps_there : (code at a m n : ℕ) → m ≡ n → code + at + a + n ≡ code + (at + a + m)
 steps_there code at a m n same = omega (arith, same)
 
 end_there : (code at a m n s t e : ℕ) → m ≡ n → s ≡ t → code + (at + a + m + s + e) ≡ code + at + a + n + t + e
 end_there code at a m n s t e same also = omega (arith, same, also)
 
 module _ (p : Plan) (is_function : ℕ → Bool) (code : ℕ) (entry_at address : ℕ → ℕ) where
-  abbrev old : Plan
+  abbrev pub old : Plan
   old = unlinked_plan p is_function
 
-  abbrev new : Plan
+  abbrev pub new : Plan
   new = with_symbols p is_function address
 
-  abbrev Fit : List Fix → Type 0
+  abbrev pub Fit : List Fix → Type 0
   Fit fixes = AllByRecursion (Fits code entry_at address) fixes
 
-  abbrev fixes_from : ℕ → List FatStep → List Fix
+  abbrev pub fixes_from : ℕ → List FatStep → List Fix
   fixes_from at steps = map fix_of (fields_of_steps old at steps)
 
-  same_size : (step : FatStep) (at : ℕ) → Fit (map fix_of (fields_of_step old at step)) → size_of_pieces (lower old step) ≡ size_of_pieces (lower new step)
+  pub same_size : (step : FatStep) (at : ℕ) → Fit (map fix_of (fields_of_step old at step)) → size_of_pieces (lower old step) ≡ size_of_pieces (lower new step)
   same_size step at fit =
       let fit_there = subst (λ (n : ℕ). Fit (map fix_of (fields_of_step old n step))) (sym (length_zeros at)) fit in
       (step_goes p is_function [] code entry_at address step (zeros at) [] fit_there).1
 
-  same_sizes : (steps : List FatStep) (at : ℕ) → Fit (fixes_from at steps) → size_of_steps old steps ≡ size_of_steps new steps
+  pub same_sizes : (steps : List FatStep) (at : ℕ) → Fit (fixes_from at steps) → size_of_steps old steps ≡ size_of_steps new steps
   same_sizes steps at fit =
       let fit_there = subst (λ (n : ℕ). Fit (fixes_from n steps)) (sym (length_zeros at)) fit in
       (steps_go p is_function [] code entry_at address steps (zeros at) [] fit_there).1
@@ -69,7 +69,7 @@ module _ (p : Plan) (is_function : ℕ → Bool) (code : ℕ) (entry_at address 
   kept n (s.Label m ∷ steps) at labels lacks = kept n steps (at + size_of_pieces (lower old (s.Label m))) (slice_set labels m at) lacks.1 ∙ get_or-set_other labels m n at 0 lacks.0
   kept n (step ∷ steps) at labels lacks = kept n steps (at + size_of_pieces (lower old step)) labels lacks
 
-  as_many : (steps : List FatStep) (at : ℕ) (labels : List ℕ) → length (labels_noted old at steps labels) ≡ length labels
+  pub as_many : (steps : List FatStep) (at : ℕ) (labels : List ℕ) → length (labels_noted old at steps labels) ≡ length labels
   as_many [] at labels = refl
   as_many (s.Label m ∷ steps) at labels = as_many steps (at + size_of_pieces (lower old (s.Label m))) (slice_set labels m at) ∙ length-set labels m at
   as_many (step ∷ steps) at labels = as_many steps (at + size_of_pieces (lower old step)) labels

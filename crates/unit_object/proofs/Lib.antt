@@ -1,3 +1,3 @@
-mod Long
-mod Unit
+pub mod Long
+pub mod Unit
 mod Given

@@ -70,7 +70,7 @@ module _ (os : List Object) (link : Link) (object : ℕ) (o : Object) where
       ap (λ (part : ℕ). fold (fixed os link object o 1) (fixed os link object o 1 bytes record { part = part; offset = f.offset; form = f.form; symbol = f.symbol; addend = f.addend }) stored) all.0
       ∙ data_stays bytes stored all.1
 
-  abbrev FitsLink : Fix → Type 0
+  abbrev pub FitsLink : Fix → Type 0
   FitsLink f = IsTrue (fits f.form (fix_value os link object o f))
 
   abbrev FitsHere : Fix → Type 0
@@ -85,7 +85,7 @@ module _ (os : List Object) (link : Link) (object : ℕ) (o : Object) where
   one_fits instrumented true offset symbol fit = subst (λ (legacy : Bool). IsTrue (fits 2 (value_in legacy true offset symbol))) instrumented fit
   one_fits instrumented false offset symbol fit = subst (λ (legacy : Bool). IsTrue (fits 1 (value_in legacy false offset symbol))) instrumented fit
 
-  fields_fit : o.legacy ≡ false → (fields : List Field) → AllByRecursion FitsLink (map fix_of fields) → AllByRecursion FitsHere (map fix_of fields)
+  pub fields_fit : o.legacy ≡ false → (fields : List Field) → AllByRecursion FitsLink (map fix_of fields) → AllByRecursion FitsHere (map fix_of fields)
   fields_fit instrumented [] all = tt
   fields_fit instrumented (f ∷ fields) all = (one_fits instrumented f.relative f.offset f.symbol all.0, fields_fit instrumented fields all.1)
 

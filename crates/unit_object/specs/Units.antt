@@ -1,5 +1,5 @@
 -- The code of a unit's functions, one behind the other, before the link and after it.
-use Rattle.std.specs.Prelude.{ℕ, ◌+◌, Bool, List, [], ◌∷◌, ◌++◌, length}
+use Rattle.std.specs.Prelude.{ℕ, ◌+◌, Bool, List, [], ◌∷◌, ◌++◌, length, slice_set}
 use Rattle.obj_file.specs.declared.object.Spot3.{Spot3}
 use Rattle.fat_ir.specs.declared.program.FatFun.{FatFun}
 use Rattle.fat_ir.specs.Functions.{Parameter}
@@ -51,6 +51,15 @@ module _ (is_function : ℕ → Bool) where
   abbrev pub unit_fields : ℕ → List Coded → List Field
   unit_fields at [] = []
   unit_fields at (c ∷ cs) = fields_from at c ++ unit_fields (past at c) cs
+
+  abbrev pub unit_spots : ℕ → List Coded → List Spot3
+  unit_spots at [] = []
+  unit_spots at (c ∷ cs) = spots_from at c ++ unit_spots (past at c) cs
+
+  -- the offset at which each function begins, noted at its name in a list
+  abbrev pub starts_noted : ℕ → List Coded → List ℕ → List ℕ
+  starts_noted at [] starts = starts
+  starts_noted at (c ∷ cs) starts = starts_noted (past at c) cs (slice_set starts c.fun.name at)
 
   -- ---- after the link, where the part of code stands at an address
 
