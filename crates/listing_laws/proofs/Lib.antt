@@ -1,0 +1,11 @@
+pub mod Spans
+pub mod Numbers
+pub mod Marks
+pub mod Words
+pub mod Mnemonics
+pub mod Signed
+pub mod Places
+pub mod Texts
+pub mod Operands
+pub mod Lines
+pub mod Forms
