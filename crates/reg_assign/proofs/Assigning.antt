@@ -13,7 +13,7 @@ use Rattle.reg_assign.specs.Lives.{range_in, from_of, past_of}
 use Rattle.reg_assign.specs.Noise.{is_call}
 use Rattle.reg_assign.specs.Ranges.{lived, AreSpans}
 use Rattle.reg_assign.specs.Places.{is_quiet, Crowded, ArePlaced}
-use Rattle.reg_assign.specs.Homes.{register_at, number_home, pair_home, is_bounds_in, home_in, homes_by, IsQuiet, HoldsCall, InManyQuiet, AreHomes}
+use Rattle.reg_assign.specs.Homes.{register_at, number_home, pair_home, is_bounds_in, home_in, homes_by, IsNamed, IsQuiet, HoldsCall, InManyQuiet, AreHomes}
 use Rattle.reg_assign.specs.declared.wishes.Wishes.{Wishes}
 use Rattle.reg_assign.specs.Wishing.{WishesFor, IsWishing, AreWishes}
 use Rattle.reg_assign.specs.Granted.{AreGranted}
@@ -55,6 +55,26 @@ free_register (suc (suc (suc zero))) lt = record { free = record { rbx = refl; r
 free_register (suc (suc (suc (suc zero)))) lt = record { free = record { rbx = refl; rsp = refl; rbp = refl; r12 = refl; r13 = refl; r14 = refl; r15 = refl }; rax = refl; rcx = refl; rdx = refl }
 free_register (suc (suc (suc (suc (suc zero))))) lt = record { free = record { rbx = refl; rsp = refl; rbp = refl; r12 = refl; r13 = refl; r14 = refl; r15 = refl }; rax = refl; rcx = refl; rdx = refl }
 free_register (suc (suc (suc (suc (suc (suc n)))))) lt = absurd (omega arith)
+
+register_named : (p : ℕ) → register_at p < 16
+register_named zero = omega arith
+register_named (suc zero) = omega arith
+register_named (suc (suc zero)) = omega arith
+register_named (suc (suc (suc zero))) = omega arith
+register_named (suc (suc (suc (suc zero)))) = omega arith
+register_named (suc (suc (suc (suc (suc n))))) = omega arith
+
+number_named : (words p : ℕ) → words ≤ 152 → p < 6 + words → IsNamed (number_home p)
+number_named words p few lt = elim (cases_lt p 6) [
+  | inl a ↦ subst IsNamed (sym (number_register p a)) (register_named p)
+  | inr a ↦ subst IsNamed (sym (number_slot p a)) (omega (arith, few, lt))
+]
+
+pair_named : (words taken p : ℕ) → words ≤ 152 → taken ≤ 152 → p < 2 + taken → IsNamed (pair_home words p)
+pair_named words taken p few also lt = elim (cases_lt p 2) [
+  | inl a ↦ subst IsNamed (sym (pair_register words p a)) (omega (arith, a))
+  | inr a ↦ subst IsNamed (sym (pair_slot words p a)) (omega (arith, few, also, lt, a))
+]
 
 numbers_apart : (p q : ℕ) → p ≢ q → Apart false (number_home p) false (number_home q)
 numbers_apart p q ne = elim (cases_lt p 6) [
@@ -241,6 +261,10 @@ module _ (f : FatFun) (l : Lives) (are : AreSpans f l) where
     call_slot v i step stands call h true e = let le = calls_have_slots true 2 (omega arith) wishes.bounds bounds pairs v i step e stands call h in
         subst IsSlot (sym (pair_is v e ∙ pair_slot words (bounds v) le)) tt
 
+    home_named : (v : ℕ) (b : Bool) → is_bounds_in f v ≡ b → IsNamed (home_in homes v)
+    home_named v false e = subst IsNamed (sym (number_is v e)) (number_named words (number v) few_words (all_numbers v))
+    home_named v true e = subst IsNamed (sym (pair_is v e)) (pair_named words taken (bounds v) few_words few_pairs (all_pairs v))
+
     pub assigned : AreHomes f record { homes = homes; words = words + 2 * taken }
     assigned = record {
       numbered = homes_length number bounds words f.bounds 0;
@@ -255,6 +279,7 @@ module _ (f : FatFun) (l : Lives) (are : AreSpans f l) where
       calls = λ v i step stands call h. call_slot v i step stands call h (is_bounds_in f v) refl;
       number_slots = λ v e slot. slots_mean false 6 (omega arith) wishes.numbers number numbers v e (slot_of_number (number v) (subst IsSlot (number_is v e) slot));
       pair_slots = λ v e slot. slots_mean true 2 (omega arith) wishes.bounds bounds pairs v e (slot_of_pair words (bounds v) (subst IsSlot (pair_is v e) slot));
+      named = λ v. home_named v (is_bounds_in f v) refl;
     }
 
     module _ (may : AreWishes f wishes) where

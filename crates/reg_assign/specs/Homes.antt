@@ -39,6 +39,12 @@ homes_by number bounds words v [] = []
 homes_by number bounds words v (b ∷ bs) =
     (if b then pair_home words (bounds v) else number_home (number v)) ∷ homes_by number bounds words (v + 1) bs
 
+-- a home that instructions can name: registers are below 16, bounds registers below 4, and a frame has at most 504 words
+abbrev pub IsNamed : Home → Type 0
+IsNamed (Reg r) = r < 16
+IsNamed (Slot k) = k < 504
+IsNamed (Bnd b) = b < 4
+
 -- ---- when a value may have a slot
 
 -- no call and no service stands in the span of a value
@@ -66,7 +72,8 @@ pub record InManyQuiet (f : FatFun) (is_bounds : Bool) (most v : ℕ) : Type 0 w
 
 -- Each value has its span. Values whose spans share a step have homes that share no word and no register. A value whose span holds a call
 -- or a service has a slot. A number has one only there, or where its span holds a step in more than six quiet spans of numbers, and so have
--- bounds with more than two quiet spans of bounds. The words of the slots are the first of the frame, 456 at most.
+-- bounds with more than two quiet spans of bounds. The words of the slots are the first of the frame, 456 at most. Instructions can name
+-- each home.
 pub record AreHomes (f : FatFun) (h : Homes) : Type 0 where
   pub numbered : length h.homes ≡ length f.bounds
   pub few : h.words ≤ 456
@@ -81,3 +88,4 @@ pub record AreHomes (f : FatFun) (h : Homes) : Type 0 where
   pub calls : (v i : ℕ) (step : FatStep) → StandsAt f.steps i step → is_call step ≡ true → InSpan f v i → IsSlot (home_in h.homes v)
   pub number_slots : (v : ℕ) → is_bounds_in f v ≡ false → IsSlot (home_in h.homes v) → HoldsCall f v ⊎ InManyQuiet f false 6 v
   pub pair_slots : (v : ℕ) → is_bounds_in f v ≡ true → IsSlot (home_in h.homes v) → HoldsCall f v ⊎ InManyQuiet f true 2 v
+  pub named : (v : ℕ) → IsNamed (home_in h.homes v)
