@@ -9,3 +9,6 @@ pub mod Texts
 pub mod Operands
 pub mod Lines
 pub mod Forms
+pub mod Bytes
+pub mod Listings
+pub mod Sizes

@@ -19,13 +19,18 @@ digit_is : (k : ℕ) → k < 10 → digit_of (48 + k) ≡ k
 unfolding digit_of
 digit_is k h = ap (λ b. cond b (48 + k - 48) (cond (nat_le 97 (48 + k) && nat_le (48 + k) 102) (48 + k - 97 + 10) (cond (nat_le 65 (48 + k) && nat_le (48 + k) 70) (48 + k - 65 + 10) 0))) (digit_byte k h) ∙ (omega arith)
 
-step_is : (n d m : ℕ) → d < 10 → n * 10 + d ≡ m → m < 2 ^ 64 → with_digit 10 (Some n) (48 + d) ≡ Some m
+-- one digit more
+pub step_of : (base n b d m : ℕ) → digit_of b ≡ d → n * base + d ≡ m → m < 2 ^ 64 → with_digit base (Some n) b ≡ Some m
 unfolding with_digit
-step_is n d m small e fits = ap (λ k. cond (nat_lt (n * 10 + k) (2 ^ 64)) (Some (n * 10 + k)) None) (digit_is d small) ∙ (ap (λ k. cond (nat_lt k (2 ^ 64)) (Some k) None) e ∙ by (nat_lt m (2 ^ 64)) refl)
+step_of base n b d m value e fits =
+    ap (λ k. cond (nat_lt (n * base + k) (2 ^ 64)) (Some (n * base + k)) None) value ∙ (ap (λ k. cond (nat_lt k (2 ^ 64)) (Some k) None) e ∙ by (nat_lt m (2 ^ 64)) refl)
   where
     by : (b : Bool) → nat_lt m (2 ^ 64) ≡ b → cond b (Some m) None ≡ Some m
     by true h = refl
     by false h = absurd (grind (arith, nat_tests))
+
+step_is : (n d m : ℕ) → d < 10 → n * 10 + d ≡ m → m < 2 ^ 64 → with_digit 10 (Some n) (48 + d) ≡ Some m
+step_is n d m small e fits = step_of 10 n (48 + d) d m (digit_is d small) e fits
 
 -- what digits are read as
 pub record Reads (n : ℕ) (ds : List ℕ) : Type 0 where

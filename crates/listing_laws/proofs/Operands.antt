@@ -58,7 +58,7 @@ numeral_space : (negative : Bool) (text : List ℕ) → numeral_at negative (32 
 unfolding numeral_at
 numeral_space negative text = λ i. option_map (λ n. (number_of negative n, after_space text i)) (magnitude (word_space text i))
 
-number_space : (text : List ℕ) → number_alone (32 ∷ text) ≡ number_alone text
+pub number_space : (text : List ℕ) → number_alone (32 ∷ text) ≡ number_alone text
 unfolding number_alone number_at
 number_space text = λ i. option_and_then alone (either (mark_space 45 text i) (λ behind. numeral_at true behind) (numeral_space false text i))
 

@@ -4,4 +4,4 @@
 
 mod laws;
 
-pub use laws::valid_instructions_are_lines;
+pub use laws::{listings_are_read_back, valid_instructions_are_lines};
