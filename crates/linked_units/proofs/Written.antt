@@ -2,7 +2,7 @@
 use Rattle.std.specs.Prelude.{map, IsTrue, not, ◌&&◌, slice_set}
 use Rattle.std.specs.List.{AllByRecursion}
 use Rattle.std.specs.Option.{option_map}
-use Rattle.std.proofs.Common.{◌≡◌, refl, sym, ap, ◌∙◌, subst, ℕ, ◌+◌, ◌<◌, ◌≤◌, ◌==◌, Bool, true, false, if◌then◌else◌, Some, List, [], ◌∷◌, ◌++◌, length, slice_get, arith, append-nil, length-append, get_or-set_same}
+use Rattle.std.proofs.Common.{◌≡◌, ◌^◌, Option, refl, sym, ap, ◌∙◌, subst, ℕ, ◌+◌, ◌<◌, ◌≤◌, ◌==◌, Bool, true, false, if◌then◌else◌, Some, List, [], ◌∷◌, ◌++◌, length, slice_get, arith, append-nil, length-append, get_or-set_same}
 use Rattle.std.proofs.lemmas.Bool.Decides.{nat_tests}
 use Rattle.mx_base.specs.Memory.{list_at}
 use Rattle.mx_base.specs.StopOfC.{AccessOfC}
@@ -33,7 +33,11 @@ use Rattle.obj_linker.specs.Placement.{plan_of, spot_of as part_of}
 use Rattle.obj_linker.specs.Symbols.{is_some_text}
 use Rattle.obj_linker.proofs.Fitted.{fixes_fit}
 use Rattle.obj_linker.proofs.Members.{got}
-use Rattle.linked_code.specs.Filled.{linked_layout, fix_of, fixes_of_function, fix_target, filled, all_filled, Fits, seen_in, unlinked_plan, with_symbols}
+use Rattle.asked_steps.specs.Alone.{AllLimited}
+use Rattle.valid_code.specs.Named.{CallsAreNear, HomesAreNamed, pointers_of}
+use Rattle.valid_code.proofs.Homing.{homing_valid}
+use Rattle.valid_code.proofs.Steps.{steps_valid}
+use Rattle.linked_code.specs.Filled.{located_at, linked_layout, fix_of, fixes_of_function, fix_target, filled, all_filled, Fits, seen_in, unlinked_plan, with_symbols}
 use Rattle.linked_code.specs.Labelled.{Tells}
 use Rattle.linked_code.proofs.Bytes.{all_each, each_front}
 use Rattle.linked_code.proofs.Going.{linked_function, fields_first}
@@ -339,6 +343,12 @@ module _ (os : List Object) (v : Image) (linked : AreLinked os v) (k : ℕ) (o :
           let high = ends_high in
           omega (arith, there_is, high)
 
+      labels_near : (j : ℕ) → laid.label_at j < 2 ^ 31
+      labels_near j =
+          let low = labels_low c.plan is_function code others c.fun c.parameters c.units first last c.labels at (all_each (λ (n : ℕ). n ≡ 0) c.labels noted.zeros) j in
+          let high = return_low in
+          omega (arith, low, high)
+
       are_there : AllValid laid.label_at entry_at (homing_at c.fun c.parameters laid (code + at)) (homing laid.plan c.fun.private c.parameters)
           → AllStepsValid laid.plan laid.label_at entry_at (steps_at c.fun c.parameters laid (code + at)) c.fun.steps
           → IsWritten c.fun c.parameters laid (bytes_in v) (accesses_of number v) entry_at (code + at)
@@ -351,18 +361,26 @@ module _ (os : List Object) (v : Image) (linked : AreLinked os v) (k : ℕ) (o :
         here = function_here c.plan is_function code entry_at others c.fun c.parameters c.units first last c.labels (accesses_of number v) at noted.fit
             (each_all (Fits code entry_at others) (map fix_of (fields_from is_function at c)) entries_fit) (each_all (Tells (accesses_of number v)) _ tells);
         exit = ends;
-        small_labels = λ j.
-            let low = labels_low c.plan is_function code others c.fun c.parameters c.units first last c.labels at (all_each (λ (n : ℕ). n ≡ 0) c.labels noted.zeros) j in
-            let high = return_low in
-            omega (arith, low, high);
+        small_labels = λ j. (let low = labels_near j in omega (arith, low));
       }
 
 pub are_written : (os : List Object) (v : Image) → AreLinked os v → (k : ℕ) (o : Object) → slice_get os k ≡ Some o
     → (is_function : ℕ → Bool) (unit : List Coded) → IsUnit is_function unit o → (at : ℕ) (c : Coded) → StandsAt is_function unit at c → LabelsAreNoted c
-    → (number : ℕ → ℕ) → AllStandIn (number (file_in os k)) c.fun.steps → (entry_at : ℕ → ℕ) → CallsLead is_function at c (seen_in os (plan_of os) k true) entry_at
-    → (first last : ℕ → ℕ) → let l = layout_at is_function (part_of (plan_of os) k).code (seen_in os (plan_of os) k false) first last at c in
-    AllValid l.label_at entry_at (homing_at c.fun c.parameters l ((part_of (plan_of os) k).code + at)) (homing l.plan c.fun.private c.parameters)
-    → AllStepsValid l.plan l.label_at entry_at (steps_at c.fun c.parameters l ((part_of (plan_of os) k).code + at)) c.fun.steps
-    → IsWritten c.fun c.parameters l (bytes_in v) (accesses_of number v) entry_at ((part_of (plan_of os) k).code + at)
-are_written os v linked k o there is_function unit is at c stands noted number stand entry_at leads first last =
+    → HomesAreNamed c.plan → pointers_of c.parameters ≤ 4
+    → (number : ℕ → ℕ) → AllStandIn (number (file_in os k)) c.fun.steps
+    → (entry_at : ℕ → ℕ) → CallsLead is_function at c (seen_in os (plan_of os) k true) entry_at → CallsAreNear entry_at c.fun.steps
+    → (returns : ℕ → Bool) (takes : ℕ → List (ℕ × Option ℕ) → Bool)
+    → AllLimited (λ symbol. located_at (is_function symbol) (seen_in os (plan_of os) k false symbol)) c.plan.pointer returns takes c.fun.steps
+    → (first last : ℕ → ℕ)
+    → IsWritten c.fun c.parameters (layout_at is_function (part_of (plan_of os) k).code (seen_in os (plan_of os) k false) first last at c) (bytes_in v) (accesses_of number v) entry_at ((part_of (plan_of os) k).code + at)
+are_written os v linked k o there is_function unit is at c stands noted named few number stand entry_at leads near returns takes limited first last =
+    let l = laid os v linked k o there is_function unit is at c stands noted number stand entry_at leads first last in
+    let start = (part_of (plan_of os) k).code + at in
+    let high = ends_high os v linked k o there is_function unit is at c stands noted number stand entry_at leads first last in
+    let labels = labels_near os v linked k o there is_function unit is at c stands noted number stand entry_at leads first last in
+    let plan_named : HomesAreNamed l.plan = record { homes = named.homes; spare = named.spare } in
+    let homing_low : homing_at c.fun c.parameters l start + size_of_pieces (homing l.plan c.fun.private c.parameters) < 2 ^ 31 = omega (arith, high) in
+    let steps_low : steps_at c.fun c.parameters l start + size_of_steps l.plan c.fun.steps < 2 ^ 31 = omega (arith, high) in
     are_there os v linked k o there is_function unit is at c stands noted number stand entry_at leads first last
+    (homing_valid l.label_at entry_at l.plan plan_named (homing_at c.fun c.parameters l start) c.fun.private c.parameters few homing_low)
+    (steps_valid l.label_at entry_at labels l.plan plan_named returns takes (steps_at c.fun c.parameters l start) c.fun.steps limited near steps_low)
