@@ -12,3 +12,5 @@ pub mod Forms
 pub mod Bytes
 pub mod Listings
 pub mod Sizes
+pub mod Whole
+pub mod Back

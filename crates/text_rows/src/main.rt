@@ -11,13 +11,14 @@ use mx_base::OutOfMemory;
 use mx_gen::{legacy, program};
 use std::io;
 use stops::print_stops;
-use texts::print_texts;
+use texts::{print_again, print_texts};
 
 fn main(rt: HostRuntime) -> io::Result<()> {
     print_text(&rt, program(rt.alloc(), 1))?;
     print_text(&rt, legacy(rt.alloc()))?;
     print_stops(&rt)?;
     print_text(&rt, all(rt.alloc(), CODE))?;
+    print_again(&rt, CODE)?;
     print_texts(&rt)
 }
 

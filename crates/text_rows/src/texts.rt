@@ -2,6 +2,8 @@
 
 use assembler::assemble;
 use hex::encode as to_hex;
+use listing_laws::reassembled;
+use mx_base::OutOfMemory;
 use obj_file::Object;
 use std::alloc::Global;
 use std::io;
@@ -49,6 +51,17 @@ pub fn print_texts<R: Print + Alloc<A = Global>>(rt: &R) -> io::Result<()> {
         print_text_object(rt, text)?;
     }
     Ok(())
+}
+
+/// The object of the text of code.
+pub fn print_again<R: Print + Alloc<A = Global>>(rt: &R, code: &[u8]) -> io::Result<()> {
+    if code.len() > 16_777_216 {
+        return Ok(());
+    }
+    match reassembled(rt.alloc(), code) {
+        Ok(o) => print_object(rt, &o),
+        Err(OutOfMemory) => println!(rt; "no memory"),
+    }
 }
 
 fn print_text_object<R: Print + Alloc<A = Global>>(rt: &R, text: &str) -> io::Result<()> {
