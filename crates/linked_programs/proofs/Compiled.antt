@@ -1,8 +1,8 @@
 -- The functions of linked units are compiled as programs want it.
-use Rattle.std.proofs.Common.{◌≡◌, ℕ, ◌+◌, ◌^◌, ◌<◌, ◌≤◌, Bool, true, false, Option, None, Some, List, [], ◌∷◌, length, refl, sym, ap, subst, arith}
+use Rattle.std.proofs.Common.{◌≡◌, ◌++◌, suc, ℕ, ◌+◌, ◌^◌, ◌<◌, ◌≤◌, Bool, true, false, Option, None, Some, List, [], ◌∷◌, length, refl, sym, ap, subst, arith}
 use Rattle.std.proofs.lemmas.Bool.{and_parts}
 use Rattle.std.proofs.lemmas.Bool.Decides.{nat_tests}
-use Rattle.std.proofs.lemmas.List.{length-map}
+use Rattle.std.proofs.lemmas.List.{length-append, length-map}
 use Rattle.mx_base.specs.declared.numbers.IntKind.{IntKind}
 use Rattle.obj_file.specs.declared.image.Image.{Image}
 use Rattle.obj_file.specs.declared.object.Object.{Object}
@@ -12,23 +12,27 @@ use Rattle.fat_ir.specs.declared.step.FatStep.{FatStep}
 use Rattle.fat_ir.specs.declared.step.FatStep.TheVariants as s
 use Rattle.fat_ir.specs.Functions.{Target, OfC, Outside, Linked as FatLinked, Parameter as FatParameter}
 use Rattle.fat_ir.specs.Step.{Located}
-use Rattle.bounds_plan.specs.steps.Code.{fat_function, fat_parameters}
-use Rattle.bounds_plan.specs.steps.Compiled.{compiled}
-use Rattle.bounds_plan.specs.meaning.Functions.{Linked, Parameter, Private, Framed}
+use Rattle.bounds_plan.specs.steps.Code.{arrivals, arrived, code_of, fat_function, fat_parameters, is_pointer}
+use Rattle.bounds_plan.specs.steps.Compiled.{FitsFunction, compiled}
+use Rattle.bounds_plan.specs.meaning.Functions.{FunctionOfC, Linked, Parameter, Private, Framed}
 use Rattle.step_code.specs.Functions.{Layout, IsWritten}
 use Rattle.step_code.specs.Homes.{first_in, last_in}
+use Rattle.step_code.specs.Homing.{width_of}
 use Rattle.step_code.specs.Steps.{Plan}
 use Rattle.reg_assign.specs.declared.homes.Homes.{Homes}
+use Rattle.reg_assign.specs.Granted.{AreGranted}
 use Rattle.reg_assign.specs.Homes.{AreHomes, IsNamed}
+use Rattle.reg_assign.specs.Laws.{HasHomes}
 use Rattle.asked_steps.specs.Alone.{AllLimited}
 use Rattle.asked_steps.specs.Assigned.{HasSpare}
 use Rattle.asked_steps.specs.Homes.{HomesServe}
+use Rattle.asked_steps.specs.Wishes.{numbers_in, parameters_wish}
 use Rattle.asked_steps.proofs.Limits.{function_limited}
 use Rattle.valid_code.specs.Named.{CallsAreNear, HomesAreNamed, pointers_in, pointers_of}
 use Rattle.call_gates.specs.Gates.{InCode}
 use Rattle.call_sigs.specs.Signatures.{pointers}
 use Rattle.legacy_calls.specs.Legacy.{Linkage}
-use Rattle.program_laws.specs.Compiled.{IsCompiled, kinds_of}
+use Rattle.program_laws.specs.Compiled.{AreClear, IsCompiled, kinds_of}
 use Rattle.program_laws.specs.Functions.{are_arguments, entries_of, entry_of, is_there, returns_in, signature_of, takes_in}
 use Rattle.obj_linker.specs.declared.parts.SymbolId.{SymbolId}
 use Rattle.obj_linker.specs.Placement.{own_address, plan_of, spot_of}
@@ -62,6 +66,12 @@ arguments_point (None ∷ qs) ((a, None) ∷ rest) e = cc
 arguments_point (None ∷ qs) ((a, Some b) ∷ rest) e = (let more = arguments_point qs rest e in omega (arith, more))
 arguments_point (Some kind ∷ qs) ((a, None) ∷ rest) e = arguments_point qs rest e
 arguments_point (Some kind ∷ qs) ((a, Some b) ∷ rest) e = cc
+
+-- as many numbers wish as there are parameters
+wishes_many : (home temp : ℕ) (ps : List Parameter) → length (numbers_in home temp (fat_parameters ps)) ≡ length (kinds_of ps)
+wishes_many home temp [] = refl
+wishes_many home temp (Private x kind ∷ ps) = ap suc (wishes_many (home + width_of (is_pointer kind)) temp ps)
+wishes_many home temp (Framed offset kind ∷ ps) = ap suc (wishes_many home (temp + width_of (is_pointer kind)) ps)
 
 module _ (reads : List ℕ → Reading) (reader : IsReader reads) (preserve : Bool) (os : List Object) (v : Image) (linked : AreLinked os v) where
   abbrev linkage : Linkage
@@ -104,7 +114,11 @@ module _ (reads : List ℕ → Reading) (reader : IsReader reads) (preserve : Bo
   abbrev Serves : Type 0
   Serves = (f : FatFun) (h : Homes) (p : Plan) → HasSpare f h p → (are : AreHomes f h) → 1 ≤ length f.steps → length f.steps < 0xffff_ffff_ffff_ffff → HomesServe f (h.words + 4) p are.span
 
-  module _ (serves : Serves) (number : ℕ → ℕ) (name : ℕ) (l : Linked) (f : ℕ) (few : f < length (plan_of os).functions) (is : IsOfUnit linkage os number name l f) where
+  abbrev Clears : Type 0
+  Clears = (count : ℕ → ℕ) (g : FunctionOfC) → FitsFunction count g → (name : ℕ) (h : Homes) (units : ℕ) (p : Plan) → HasHomes (fat_function name g) h units p → AreHomes (fat_function name g) h
+      → length (parameters_wish g).numbers ≤ 6 → AreGranted (parameters_wish g) h → (first : ℕ → ℕ) → AreClear p first 0 (length g.privates) 0 0 g.parameters
+
+  module _ (serves : Serves) (clears : Clears) (number count : ℕ → ℕ) (name : ℕ) (l : Linked) (fits : FitsFunction count l.fun) (f : ℕ) (few : f < length (plan_of os).functions) (is : IsOfUnit linkage os number name l f) where
     abbrev others : ℕ → ℕ
     others = seen_in os (plan_of os) is.object false
 
@@ -156,9 +170,27 @@ module _ (reads : List ℕ → Reading) (reader : IsReader reads) (preserve : Bo
         let by_parameters = subst (λ (ps : List FatParameter). IsWritten (fat_function name l.fun) ps laid (bytes_in v) (accesses_of number v) entries ((spot_of (plan_of os) is.object).code + is.at)) is.coded.parameters by_function in
         subst (λ (n : ℕ). IsWritten (fat_function name l.fun) (fat_parameters l.fun.parameters) laid (bytes_in v) (accesses_of number v) entries n) is.bound.stands by_parameters
 
+    arguments : AreClear plan first 0 (length l.fun.privates) 0 0 l.fun.parameters
+    arguments =
+        let has = subst (λ (g : FatFun). HasHomes g is.coded.homes (is.coded.homes.words + 4) plan) is.coded.fun spare.has in
+        let are = subst (λ (g : FatFun). AreHomes g is.coded.homes) is.coded.fun is.coded.are in
+        let many = wishes_many 0 (length l.fun.privates) l.fun.parameters in
+        let told = ap length is.bound.signature in
+        let most = (told_registers (sig_at os (function_at os f))).few in
+        clears count l.fun fits name is.coded.homes (is.coded.homes.words + 4) plan has are (omega (arith, many, told, most)) is.coded.granted first
+
+    some_steps : 1 ≤ length is.c.fun.steps
+    some_steps =
+        let base = length l.fun.privates + length (arrived l.fun.parameters) in
+        let body = code_of l.fun.body base 1 0 0 in
+        let one = length-append (arrivals l.fun.parameters (length l.fun.privates) base) (body ++ s.Label 0 ∷ []) in
+        let two = length-append body (s.Label 0 ∷ []) in
+        let same = ap (λ (g : FatFun). length g.steps) is.coded.fun in
+        omega (arith, one, two, same)
+
     serve : HomesServe (fat_function name l.fun) is.c.units plan is.coded.are.span
     serve =
-        let own = serves is.c.fun is.coded.homes plan spare is.coded.are is.coded.some is.coded.short in
+        let own = serves is.c.fun is.coded.homes plan spare is.coded.are some_steps is.coded.short in
         let by_function = subst (λ (g : FatFun). HomesServe g (is.coded.homes.words + 4) plan is.coded.are.span) is.coded.fun own in
         subst (λ (n : ℕ). HomesServe (fat_function name l.fun) n plan is.coded.are.span) (sym is.coded.units) by_function
 
@@ -169,7 +201,7 @@ module _ (reads : List ℕ → Reading) (reader : IsReader reads) (preserve : Bo
       serve = serve;
       few_words = (let most = is.coded.are.few in let units = is.coded.units in omega (arith, most, units));
       few_bytes = is.coded.few_bytes;
-      arguments = is.coded.arguments;
+      arguments = arguments;
       pointer = is.bound.pointer;
       located = is.bound.located;
       within = is.bound.within;

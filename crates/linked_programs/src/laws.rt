@@ -8,6 +8,7 @@ ghost use Rattle.obj_file.specs.declared.image.Image.{Image};
 ghost use Rattle.obj_file.specs.declared.object.Object.{Object};
 ghost use Rattle.obj_file.specs.Machine.{IsReader, Reading};
 ghost use Rattle.obj_file.specs.Stored.{stored_at_start};
+ghost use Rattle.bounds_plan.specs.steps.Compiled.{FitsFunction};
 ghost use Rattle.bounds_plan.specs.steps.Follows.{outcome_of};
 ghost use Rattle.bounds_plan.specs.meaning.Functions.{Linked, program_run};
 ghost use Rattle.legacy_calls.specs.OfC.{outside_of_c};
@@ -22,17 +23,20 @@ ghost use Rattle.linked_programs.specs.Programs.{IsOfUnit, IsProgram};
 
 use asked_steps::assigned_homes_serve;
 use linked_laws::{gates_stand_where_they_are_wanted, linked_images_are_loaded};
-use program_laws::images_of_compiled_programs_end_as_they_mean;
+use program_laws::{
+    assigned_homes_hold_no_argument_to_come, images_of_compiled_programs_end_as_they_mean,
+};
 
 /// Each function of a unit is compiled, as programs want it (`IsCompiled` of `program_laws`), in the image of linked objects: the image has
 /// its code, its homes serve, and its symbols stand and are called where the linker has them.
 pub fn linked_functions_are_compiled()
     ensures { (reads : List ℕ → Reading) → IsReader reads → (preserve : Bool) (os : List Object) (v : Image) → AreLinked os v
-        → (number : ℕ → ℕ) (name : ℕ) (l : Linked) (f : ℕ) → f < length (plan_of os).functions
+        → (number count : ℕ → ℕ) (name : ℕ) (l : Linked) → FitsFunction count l.fun → (f : ℕ) → f < length (plan_of os).functions
         → IsOfUnit (linkage_of reads preserve os) os number name l f
         → IsCompiled (linkage_of reads preserve os) (bytes_in v) (accesses_of number v) (inner_of os) (stub_of os) name l f }
 {
     assigned_homes_serve();
+    assigned_homes_hold_no_argument_to_come();
 }
 
 /// So the run of the image of linked objects ends as the program of their units means in C, for every input of bytes, number of turns and

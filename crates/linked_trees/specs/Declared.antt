@@ -1,5 +1,6 @@
 -- What a source says of the symbols of its functions, and what a link has for them.
-use Rattle.std.specs.Prelude.{◌≡◌, ℕ, ◌==◌, not, ◌&&◌, if◌then◌else◌, Bool, true, false, Option, None, Some, List, [], ◌∷◌, map, slice_get, slice_index_or}
+use Rattle.std.specs.Prelude.{◌≡◌, ℕ, ◌==◌, not, ◌&&◌, if◌then◌else◌, Bool, true, false}
+use Rattle.std.specs.Prelude.{Option, None, Some, List, [], ◌∷◌, map, slice_get, slice_index_or}
 use Rattle.c_types.specs.Types.{CType}
 use Rattle.fat_ir.specs.Functions.{Linked}
 use Rattle.bounds_plan.specs.elaboration.Functions.{kind_in}

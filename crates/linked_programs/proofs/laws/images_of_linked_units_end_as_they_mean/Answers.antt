@@ -1,4 +1,5 @@
 use Rattle.std.proofs.Common.{length}
+use Rattle.bounds_plan.specs.steps.Compiled.{parameters_of, taken_by}
 use Rattle.obj_file.specs.Stored.{stored_at_start}
 use Rattle.program_laws.specs.Compiled.{HasCompiled}
 use Rattle.linked_laws.proofs.Answer.{passed}
@@ -18,7 +19,8 @@ returns c = λ reads reader preserve os v linked bytes number takes_outside prog
       fits = is.fits;
       signatures = is.signatures;
       few_pairs = is.few_pairs;
-      each = λ f few. c.linked_functions_are_compiled.ensures reads reader preserve os v linked number (name f) (program f) f few (is.each f few);
+      each = λ f few. c.linked_functions_are_compiled.ensures reads reader preserve os v linked number
+          (λ symbol. taken_by (parameters_of program) takes_outside ((program f).targets symbol)) (name f) (program f) (is.fits f) f few (is.each f few);
       placed = none_in_legacy number v (length v.files) (formed os v linked).places;
     } in
     c.images_of_compiled_programs_end_as_they_mean.ensures.run k (bytes_in v) (accesses_of number v) (inner_of os) (stub_of os) takes_outside program name has
