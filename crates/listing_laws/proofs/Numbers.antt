@@ -95,12 +95,14 @@ pub digits_word : (ds : List ℕ) → list_all is_ascii_digit ds ≡ true → li
 digits_word [] h = refl
 digits_word (d ∷ ds) h = let p = and_parts (is_ascii_digit d) (list_all is_ascii_digit ds) h in (λ i. digit_word d p.0 i && digits_word ds p.1 i)
 
-digit_not_blank : (b : ℕ) → is_ascii_digit b ≡ true → not (is_blank b) ≡ true
-digit_not_blank b h = grind (arith, nat_tests)
+-- the byte at the front is a digit
+pub digits_front : (q : ℕ → Bool) → ((d : ℕ) → is_ascii_digit d ≡ true → not (q d) ≡ true) → (ds rest : List ℕ) → list_all is_ascii_digit ds ≡ true → 0 < length ds
+    → stops q (ds ++ rest) ≡ true
+digits_front q other [] rest h s = absurd (omega arith)
+digits_front q other (d ∷ ds) rest h s = other d (and_parts (is_ascii_digit d) (list_all is_ascii_digit ds) h).0
 
-digits_not_blank : (ds rest : List ℕ) → list_all is_ascii_digit ds ≡ true → 0 < length ds → stops is_blank (ds ++ rest) ≡ true
-digits_not_blank [] rest h s = absurd (omega arith)
-digits_not_blank (d ∷ ds) rest h s = digit_not_blank d (and_parts (is_ascii_digit d) (list_all is_ascii_digit ds) h).0
+pub digit_no_blank : (d : ℕ) → is_ascii_digit d ≡ true → not (is_blank d) ≡ true
+digit_no_blank d h = grind (arith, nat_tests)
 
 -- ---- numbers
 
@@ -108,7 +110,7 @@ pub numeral_read : (negative : Bool) (n : ℕ) (rest : List ℕ) → n < 2 ^ 64 
 unfolding numeral_at
 numeral_read negative n rest h s =
     let r = reads n h in
-    let blank = digits_not_blank (decimal n) rest r.digits r.some in
+    let blank = digits_front is_blank digit_no_blank (decimal n) rest r.digits r.some in
     let word = digits_word (decimal n) r.digits in
     (λ i. option_map (λ o. (number_of negative o, behind_word (decimal n) rest word s blank i)) (magnitude (front_word (decimal n) rest word s blank i)))
     ∙ ap (option_map (λ o. (number_of negative o, rest))) (magnitude_digits (decimal n) r.digits r.some ∙ ap Some (r.value h))

@@ -22,9 +22,9 @@ use Rattle.asm_text.specs.Operands.{Named, bare, place_of, is_inside, bracketed,
 use Rattle.listing_laws.proofs.Spans.{stops, span_taken, span_dropped, skip_space}
 use Rattle.listing_laws.proofs.Marks.{mark_here, mark_none, mark_space}
 use Rattle.listing_laws.proofs.Words.{IsWord, IsRegister, IsSize, register_8, register_16, register_32, register_64, bounds_register, size_8, size_16, size_32, size_64}
-use Rattle.listing_laws.proofs.Signed.{fits_wide, decimal_front, digit_no_blank, digit_no_bracket, digit_no_colon, decimal_alone, decimal_digit, number_whole}
-use Rattle.listing_laws.proofs.Numbers.{reads}
-use Rattle.listing_laws.proofs.Places.{place, place_read, word_of, after_of, signed_no_word}
+use Rattle.listing_laws.proofs.Signed.{fits_wide, decimal_front, digit_no_bracket, digit_no_colon, decimal_alone, decimal_digit, number_whole}
+use Rattle.listing_laws.proofs.Numbers.{reads, digit_no_blank}
+use Rattle.listing_laws.proofs.Places.{place, place_read, word_of, after_of, signed_no_word, letter_no_blank}
 use Rattle.listing_laws.proofs.Texts.{is_inner, is_quiet, weaker, both, word_quiet, inner_quiet, inner_inside, inner_signed, inner_address}
 
 -- ---- widths
@@ -106,9 +106,6 @@ word_starts (b ∷ t) rest w = letter_tests b w.letter
 pub word_stops : (q : ℕ → Bool) → ((b : ℕ) → is_ascii_alphabetic b ≡ true → not (q b) ≡ true) → (t rest : List ℕ) → IsWord t → stops q (t ++ rest) ≡ true
 word_stops q other [] rest w = absurd (true≢false (sym w.letter))
 word_stops q other (b ∷ t) rest w = other b w.letter
-
-letter_no_blank : (b : ℕ) → is_ascii_alphabetic b ≡ true → not (is_blank b) ≡ true
-letter_no_blank b h = grind (arith, nat_tests)
 
 -- no bracket stands before a word
 word_first : (t rest : List ℕ) → IsWord t → mark_at 91 (t ++ rest) ≡ None

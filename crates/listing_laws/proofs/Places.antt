@@ -129,7 +129,7 @@ unfolding indexed
 unstarred base q rest z t = ap (λ o. either o (λ behind. scaled base q behind) (tail base (Some (reg q, 1)) true rest)) t.star ∙ t.read base (Some (reg q, 1))
 
 -- the word of a register
-letter_no_blank : (b : ℕ) → is_ascii_alphabetic b ≡ true → not (is_blank b) ≡ true
+pub letter_no_blank : (b : ℕ) → is_ascii_alphabetic b ≡ true → not (is_blank b) ≡ true
 letter_no_blank b h = grind (arith, nat_tests)
 
 word_no_blank : (t rest : List ℕ) → IsWord t → stops is_blank (t ++ rest) ≡ true

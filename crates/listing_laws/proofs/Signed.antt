@@ -12,7 +12,7 @@ use Rattle.asm_text.specs.Cuts.{is}
 use Rattle.listing_laws.proofs.Spans.{stops, front_word}
 use Rattle.listing_laws.proofs.Marks.{mark_here, mark_none}
 use Rattle.listing_laws.proofs.Words.{IsNoWord, digits_no_word}
-use Rattle.listing_laws.proofs.Numbers.{reads, digits_word, numeral_read}
+use Rattle.listing_laws.proofs.Numbers.{reads, digits_word, numeral_read, digits_front, digit_no_blank}
 
 pub fits_wide : (z : ℤ) → fits_32 z ≡ true → fits_64 z ≡ true
 fits_wide (pos n) f = grind (arith, nat_tests)
@@ -20,15 +20,8 @@ fits_wide (negsuc n) f = grind (arith, nat_tests)
 
 -- ---- the front of a decimal
 
-digits_front : (q : ℕ → Bool) → ((d : ℕ) → is_ascii_digit d ≡ true → not (q d) ≡ true) → (ds rest : List ℕ) → list_all is_ascii_digit ds ≡ true → 0 < length ds → stops q (ds ++ rest) ≡ true
-digits_front q other [] rest h s = absurd (omega arith)
-digits_front q other (d ∷ ds) rest h s = other d (and_parts (is_ascii_digit d) (list_all is_ascii_digit ds) h).0
-
 pub decimal_front : (q : ℕ → Bool) → ((d : ℕ) → is_ascii_digit d ≡ true → not (q d) ≡ true) → (n : ℕ) (rest : List ℕ) → n < 2 ^ 64 → stops q (decimal n ++ rest) ≡ true
 decimal_front q other n rest h = let r = reads n h in digits_front q other (decimal n) rest r.digits r.some
-
-pub digit_no_blank : (d : ℕ) → is_ascii_digit d ≡ true → not (is_blank d) ≡ true
-digit_no_blank d h = grind (arith, nat_tests)
 
 pub digit_no_mark : (m : ℕ) → m < 48 → (d : ℕ) → is_ascii_digit d ≡ true → not (is m d) ≡ true
 digit_no_mark m below d h = grind (arith, nat_tests)
